@@ -1,0 +1,11 @@
+pub mod Numbers
+pub mod Classes
+pub mod Names
+pub mod States
+pub mod Places
+pub mod Fits
+pub mod Seen
+pub mod Served
+pub mod Process
+pub mod Acts
+pub mod Kinds
