@@ -1,0 +1,72 @@
+//! Reading and writing to the end, over any source and sink.
+ghost use Rattle.std.specs.Prelude.{◌≡◌, ◌<◌, ◌≤◌, ◌+◌, ℕ, List, Option, length, take, vec_len, ◌++◌, IfOk, IfSome, OnOk, OnErr, IsErrOf};
+ghost use Rattle.conn_result.specs.Causes.{Rose, HasCause};
+ghost use Rattle.conn_io.specs.Bytes.{Takes, IsAtEnd, Adds, AddsPrefix};
+
+use crate::traits::{Failed, Sink, Source};
+use std::alloc::Global;
+
+/// Why not all was read.
+#[derive(Clone, Copy, Debug, PartialEq, Eq)]
+pub enum ReadError {
+    /// A read failed, and the source counted it.
+    Failed,
+    OutOfMemory,
+}
+
+/// Adds what one read gives, at most `room` bytes, to the end of `bytes`.
+fn read_more<I: Source>(
+    source: &mut I,
+    room: usize,
+    bytes: &mut Vec<u8>,
+) -> Result<usize, ReadError>
+    requires { 0 < room }
+    ensures count { IfOk result (λ n. (n ≤ room) × (vec_len bytes.new ≡ vec_len bytes.old + n)) }
+    ensures takes { IfOk result (λ n. (taken : List ℕ) × (bytes.new.items ≡ bytes.old.items ++ taken) × Takes (I.left source.old) (I.left source.new) taken) }
+    ensures ends { IfOk result (λ n. n ≡ 0 → IsAtEnd (I.left source.new)) }
+    ensures later { I.faults source.old ≤ I.faults source.new }
+    ensures failed { IsErrOf result ReadError.Failed → Rose (I.faults source.old) (I.faults source.new) }
+{
+    let mut place = [0u8; 4096];
+    let end = room.min(place.len());
+    match source.read(&mut place[..end]) {
+        Ok(n) => {
+            if bytes.extend_from_slice(&place[..n]).is_err() {
+                return Err(ReadError::OutOfMemory);
+            }
+            Ok(n)
+        }
+        Err(Failed) => Err(ReadError::Failed),
+    }
+}
+
+/// Reads to the end, or until `most` bytes are read. A failure comes only where the source counted it.
+pub fn read_all<I: Source>(alloc: Global, source: &mut I, most: usize) -> Result<Vec<u8>, ReadError>
+    ensures ok { IfOk result (λ bytes. IfSome (I.left source.old) (λ left. bytes.items ≡ take most left)) }
+    ensures count { IfOk result (λ bytes. vec_len bytes ≤ most) }
+    ensures takes { IfOk result (λ bytes. Takes (I.left source.old) (I.left source.new) bytes.items) }
+    ensures later { I.faults source.old ≤ I.faults source.new }
+    ensures failed { IsErrOf result ReadError.Failed → Rose (I.faults source.old) (I.faults source.new) }
+{
+    let mut bytes = Vec::new(alloc);
+    while bytes.len() < most {
+        let room = most - bytes.len();
+        if read_more(source, room, &mut bytes)? == 0 {
+            return Ok(bytes);
+        }
+    }
+    Ok(bytes)
+}
+
+/// Writes all of the bytes. Where a write fails, some of them, and not all, are written before.
+pub fn write_all<O: Sink>(sink: &mut O, bytes: &[u8]) -> Result<(), Failed>
+    ensures ok { OnOk result (Adds (O.held sink.old) (O.held sink.new) bytes.now) }
+    ensures err { OnErr result (AddsPrefix (O.held sink.old) (O.held sink.new) bytes.now) }
+    ensures cause { HasCause (O.faults sink.old) (O.faults sink.new) result }
+{
+    let mut at = 0;
+    while at < bytes.len() {
+        at += sink.write(&bytes[at..])?;
+    }
+    Ok(())
+}
