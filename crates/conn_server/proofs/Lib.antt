@@ -1,0 +1,8 @@
+mod Logs
+mod Marked
+mod Indexing
+mod Moving
+pub mod Goes
+mod Found
+mod Kept
+mod Grouping
