@@ -1,0 +1,107 @@
+-- The grammar: what a line may be after the lines before it, and what a list of bytes stands for.
+use Rattle.std.specs.Prelude.{ℕ, ◌+◌, ◌≡◌, ◌==◌, false, nat_lt, List, [], ◌∷◌, ◌++◌, length, Option, Some, None, Result, Ok, Err, is_none, if◌then◌else◌, codes}
+use Rattle.std.specs.Option.{option_map}
+use Rattle.std.specs.Str.{bytes_eq, is_utf8}
+use Rattle.conn_model.specs.Numbers.{number}
+use Rattle.conn_model.specs.declared.item.Dialect.TheVariants as dialects
+pub use Rattle.conn_script.specs.Options.{◌>>=◌, guard}
+use Rattle.conn_script.specs.Words.{split_at, is_statement}
+use Rattle.conn_script.specs.Plans.{refused_of, with_refused}
+use Rattle.conn_script.specs.declared.command.Word.{Word}
+use Rattle.conn_script.specs.declared.command.Word.TheVariants as words
+use Rattle.conn_script.specs.declared.command.Act.{Act}
+use Rattle.conn_script.specs.declared.command.Act.TheVariants as acts
+use Rattle.conn_script.specs.declared.command.Customizer.TheVariants as customizers
+use Rattle.conn_script.specs.declared.command.Script.{Script}
+use Rattle.conn_script.specs.declared.command.SessionError.{SessionError}
+use Rattle.conn_script.specs.declared.command.SessionError.TheVariants.{BadScript, OutOfMemory}
+
+-- the command word that is spelled so
+abbrev pub word_named : List ℕ → Option Word
+word_named bs =
+    if bytes_eq bs (codes "get") then Some words.Get else
+    if bytes_eq bs (codes "put") then Some words.Put else
+    if bytes_eq bs (codes "batch") then Some words.Batch else
+    if bytes_eq bs (codes "begin") then Some words.Begin else
+    if bytes_eq bs (codes "commit") then Some words.Commit else
+    if bytes_eq bs (codes "rollback") then Some words.Rollback else None
+
+-- a connection alone
+abbrev pub connection_alone : Option (List ℕ) → Option ℕ
+connection_alone rest = do
+  text ← rest
+  number 4294967296 text
+
+-- what a command asks for, by its word and what follows it behind a space
+abbrev pub act_from : Word → Option (List ℕ) → Option Act
+act_from words.Get rest = guard (is_none rest) acts.Get
+act_from words.Put rest = option_map acts.Put (connection_alone rest)
+act_from words.Batch rest = do
+  text ← rest
+  c ← number 4294967296 (split_at 32 text).0
+  statement ← (split_at 32 text).1
+  guard (is_statement statement) (acts.Batch c statement)
+act_from words.Begin rest = option_map acts.Begin (connection_alone rest)
+act_from words.Commit rest = option_map acts.Commit (connection_alone rest)
+act_from words.Rollback rest = option_map acts.Rollback (connection_alone rest)
+
+-- what the command of this first word asks for
+abbrev pub act_of : List ℕ → Option (List ℕ) → Option Act
+act_of first rest = do
+  word ← word_named first
+  act_from word rest
+
+-- a session over SQLite with a pool of one connection, which is neither customized nor checked
+abbrev pub empty_script : Script
+empty_script = record { dialect = dialects.Sqlite; max_size = 1; customizer = customizers.Nop; check = false; url = codes ":memory:"; plan = []; commands = [] }
+
+-- the script with one more command, if there may be one
+abbrev pub with_command : ℕ → Script → Act → Option Script
+with_command n script act = guard (nat_lt (length script.commands) 1048576) (record script { commands = script.commands ++ record { line = n; act = act } ∷ [] })
+
+-- the script with one more line, the line of number n, by its first word and what follows it behind a space
+abbrev pub with_words : ℕ → Script → List ℕ × Option (List ℕ) → Option Script
+with_words n script line = if bytes_eq line.0 (codes "refuse") then (refused_of line.1 >>= with_refused script) else (act_of line.0 line.1 >>= with_command n script)
+
+-- the script that the lines up to this one, the line of number n, begin, if they begin one
+abbrev pub next : ℕ → Option Script → List ℕ → Option Script
+next n None line = guard (bytes_eq line (codes "session sqlite 1 nop nocheck")) empty_script
+next n (Some script) line = if is_utf8 line then with_words n script (split_at 32 line) else None
+
+-- the parts between line feeds; the last one is what follows the last line feed
+abbrev pub with_first : ℕ → List (List ℕ) → List (List ℕ)
+with_first b [] = (b ∷ []) ∷ []
+with_first b (line ∷ lines) = (b ∷ line) ∷ lines
+
+abbrev pub lines_of : List ℕ → List (List ℕ)
+lines_of [] = [] ∷ []
+lines_of (b ∷ bs) = if b == 10 then [] ∷ lines_of bs else with_first b (lines_of bs)
+
+-- the script at the end, where the last line feed stood before line n
+abbrev pub finished : ℕ → Option Script → List ℕ → Result Script ℕ
+finished n (Some script) [] = Ok script
+finished n (Some script) (b ∷ bs) = Err n
+finished n None last = Err n
+
+abbrev pub or_bad : ℕ → Option Script → (Script → Result Script ℕ) → Result Script ℕ
+or_bad n None f = Err n
+or_bad n (Some script) f = f script
+
+-- the script, or the number of the first line that no script goes on with
+abbrev pub judged : ℕ → Option Script → List (List ℕ) → Result Script ℕ
+judged n script [] = Err n
+judged n script (last ∷ []) = finished n script last
+judged n script (line ∷ more ∷ lines) = or_bad n (next n script line) (λ s. judged (n + 1) (Some s) (more ∷ lines))
+
+-- what the bytes stand for: a script, or the number of the bad line; 0 where there are more than 16,777,216 bytes
+abbrev pub script_of : List ℕ → Result Script ℕ
+script_of bytes = if nat_lt 16777216 (length bytes) then Err 0 else judged 1 None (lines_of bytes)
+
+-- a fault is the bad line's, unless memory ran out
+abbrev pub Fails : SessionError → Result Script ℕ → Type 0
+Fails (BadScript n) read = read ≡ Err n
+Fails OutOfMemory read = Unit {0}
+
+abbrev pub Gives : Result Script SessionError → Result Script ℕ → Type 0
+Gives (Ok script) read = read ≡ Ok script
+Gives (Err e) read = Fails e read

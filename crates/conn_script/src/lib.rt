@@ -1,0 +1,19 @@
+//! Scripts: the lines, their words, and the script that they make.
+#![tactic(auto)]
+
+mod acts;
+mod command;
+mod draft;
+mod fields;
+mod law;
+mod parse;
+mod plan;
+mod statement;
+mod words;
+
+pub use command::{Act, Command, Commands, Customizer, Plan, Script, SessionError, Word};
+pub use law::{bad_line_is_the_first, bad_lines_do_not, good_lines_go_on};
+pub use parse::parse_script;
+
+#[cfg(test)]
+mod tests;
