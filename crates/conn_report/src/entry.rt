@@ -1,0 +1,51 @@
+//! What the commands of a session gave.
+use conn_manager::TransactionManagerStatus;
+use conn_model::Text;
+use conn_result::{ConnectionError, Error};
+use conn_script::Word;
+use sqlite_items::Items;
+
+/// The reply to a command.
+#[derive(Clone, Copy, Debug)]
+pub enum Reply {
+    Ok,
+    /// The pool kept the connection.
+    Kept,
+    /// The pool closed the connection.
+    Closed,
+    /// The named connection isn't handed out.
+    NotOut,
+    /// No slot of the pool is free.
+    NoneFree,
+    Error(Error),
+    /// The pool opened no connection.
+    Pool(ConnectionError),
+}
+
+/// What one command gave: the script's line, its first word, the connection, the reply, and, where a connection was there,
+/// its tracked status and the number of items of its server after the command.
+#[derive(Clone, Copy, Debug)]
+pub struct Entry {
+    pub line: u32,
+    pub word: Word,
+    pub connection: Option<u32>,
+    pub reply: Reply,
+    pub status: Option<TransactionManagerStatus>,
+    pub mark: Option<u64>,
+}
+
+/// Entries in order, seen as a list.
+pub type Entries = Items<Entry>;
+
+/// Texts in order, seen as a list.
+pub type Texts = Items<Text>;
+
+/// For each server by its number the writes that it committed, where they are told; seen as a list.
+pub type Servers = Items<Option<Texts>>;
+
+/// The entries of a session, and what each of its servers kept.
+#[derive(Debug, Drop)]
+pub struct Transcript {
+    pub entries: Entries,
+    pub servers: Servers,
+}
