@@ -1,0 +1,161 @@
+-- Histories that meet what the laws ask for.
+use Rattle.std.proofs.Common.{◌≡◌, ℕ, pos, true, false, List, [], ◌∷◌, codes, refl, sym, ◌∙◌, subst, Some, Ok, Err}
+use Rattle.std.specs.Fmt.{digits}
+use Rattle.conn_result.specs.declared.error.DatabaseErrorKind.TheVariants.{Unknown}
+use Rattle.conn_result.specs.declared.error.Error.{Error}
+use Rattle.conn_result.specs.declared.error.Error.TheVariants.{DatabaseError, RollbackErrorOnCommit}
+use Rattle.conn_model.specs.Classes.{class, is_begin, is_built, is_write, same_text, begins, number_behind}
+use Rattle.conn_model.specs.States.{State, Idle, Open, Mark, step}
+use Rattle.conn_model.specs.declared.item.Answer.{Answer}
+use Rattle.conn_model.specs.declared.item.Answer.TheVariants.{Accepted, Refused}
+use Rattle.conn_model.specs.declared.item.Call.TheVariants.{Exec}
+use Rattle.conn_model.specs.declared.item.Dialect.TheVariants.{Sqlite}
+use Rattle.conn_model.specs.declared.item.Effect.TheVariants.{Stays}
+use Rattle.conn_model.specs.declared.item.Item.{Item}
+use Rattle.conn_manager.specs.Manages.{Done, done, flat}
+use Rattle.conn_manager.specs.Statuses.{Status, no_depth, at_depth}
+use Rattle.conn_manager.specs.declared.status.TransactionManagerStatus.TheVariants.{InError}
+use Rattle.conn_reading.specs.Folds.{alone, fold_of, is_idle, sets, SetsInOpen, FoldPremises}
+use Rattle.conn_reading.specs.Histories.{Deed, Begin, Commit, Rollback, Batch, Step, IsHistory}
+
+abbrev item : List ℕ → Answer → Item
+item text answer = record { call = Exec; text = text; answer = answer }
+
+abbrev step_of : Deed → List ℕ → Answer → Done → Step
+step_of deed text answer a = record { deed = deed; items = item text answer ∷ []; answer = a }
+
+abbrev at : ℕ → Status
+at depth = at_depth (record { transaction_depth = depth; requires_rollback_maybe_up_to_top_level = false; test_transaction = false })
+
+-- begin, write a, begin, write b, roll back, commit
+abbrev nested : List Step
+nested =
+    step_of Begin (codes "BEGIN") Accepted (done (Ok tt) (at 1))
+    ∷ step_of (Batch (codes "INSERT a")) (codes "INSERT a") Accepted (done (Ok tt) (at 1))
+    ∷ step_of Begin (codes "SAVEPOINT diesel_savepoint_1") Accepted (done (Ok tt) (at 2))
+    ∷ step_of (Batch (codes "INSERT b")) (codes "INSERT b") Accepted (done (Ok tt) (at 2))
+    ∷ step_of Rollback (codes "ROLLBACK TO SAVEPOINT diesel_savepoint_1") Accepted (done (Ok tt) (at 1))
+    ∷ step_of Commit (codes "COMMIT") Accepted (done (Ok tt) no_depth)
+    ∷ []
+
+-- a alone is kept
+the_fold : (fold_of nested (alone [])).lowest ≡ codes "INSERT a" ∷ []
+unfolding class is_begin is_built is_write same_text begins number_behind digits
+the_fold = refl
+
+abbrev open_at : List (List ℕ) → List Mark → State
+open_at now marks = Open (record { base = []; now = now; marks = marks; aborted = false })
+
+abbrev mark_1 : Mark
+mark_1 = record { number = 1; writes = codes "INSERT a" ∷ [] }
+
+abbrev a_alone : List (List ℕ)
+a_alone = codes "INSERT a" ∷ []
+
+abbrev a_and_b : List (List ℕ)
+a_and_b = codes "INSERT a" ∷ codes "INSERT b" ∷ []
+
+nested_follows : IsHistory Sqlite nested no_depth
+unfolding class is_begin is_built is_write same_text begins number_behind digits
+nested_follows = record {
+  state = Idle a_alone;
+  follows = (
+    tt,
+    (
+      open_at [] [],
+      record { whatever_follows = λ more. refl },
+      (
+        refl,
+        (
+          open_at a_alone [],
+          record { whatever_follows = λ more. refl },
+          (
+            tt,
+            (
+              open_at a_alone (mark_1 ∷ []),
+              record { whatever_follows = λ more. refl },
+              (
+                refl,
+                (
+                  open_at a_and_b (mark_1 ∷ []),
+                  record { whatever_follows = λ more. refl },
+                  (
+                    tt,
+                    (
+                      open_at a_alone (mark_1 ∷ []),
+                      record { whatever_follows = λ more. refl },
+                      (
+                        tt,
+                        (
+                          Idle a_alone,
+                          record { whatever_follows = λ more. refl },
+                          (refl, refl),
+                        ),
+                      ),
+                    ),
+                  ),
+                ),
+              ),
+            ),
+          ),
+        ),
+      ),
+    ),
+  );
+}
+
+sets_at : (s after : State) (i : Item) (is : List Item) → step Sqlite s i ≡ Some after → (sets i ≡ true → is_idle s ≡ false) → SetsInOpen Sqlite after is → SetsInOpen Sqlite s (i ∷ is)
+sets_at s after i is e first rest = (first, λ x f. (let same : after ≡ x = cc (sym e ∙ f) in subst (λ (y : State). SetsInOpen Sqlite y is) same rest))
+
+not_live : false ≡ true → ⊥
+not_live e = cc
+
+abbrev the_commit : List Item
+the_commit = item (codes "COMMIT") Accepted ∷ []
+
+abbrev from_back : List Item
+from_back = item (codes "ROLLBACK TO SAVEPOINT diesel_savepoint_1") Accepted ∷ the_commit
+
+abbrev from_b : List Item
+from_b = item (codes "INSERT b") Accepted ∷ from_back
+
+abbrev from_savepoint : List Item
+from_savepoint = item (codes "SAVEPOINT diesel_savepoint_1") Accepted ∷ from_b
+
+abbrev from_a : List Item
+from_a = item (codes "INSERT a") Accepted ∷ from_savepoint
+
+nested_meets : FoldPremises Sqlite nested
+unfolding class is_begin is_built is_write same_text begins number_behind digits
+nested_meets = record {
+  none_refused = refl;
+  none_in_idle =
+      sets_at (Idle []) (open_at [] []) (item (codes "BEGIN") Accepted) from_a refl (λ e. absurd (not_live e))
+      (sets_at (open_at [] []) (open_at a_alone []) (item (codes "INSERT a") Accepted) from_savepoint refl (λ e. refl)
+      (sets_at (open_at a_alone []) (open_at a_alone (mark_1 ∷ [])) (item (codes "SAVEPOINT diesel_savepoint_1") Accepted) from_b refl (λ e. refl)
+      (sets_at (open_at a_alone (mark_1 ∷ [])) (open_at a_and_b (mark_1 ∷ [])) (item (codes "INSERT b") Accepted) from_back refl (λ e. refl)
+      (sets_at (open_at a_and_b (mark_1 ∷ [])) (open_at a_alone (mark_1 ∷ [])) (item (codes "ROLLBACK TO SAVEPOINT diesel_savepoint_1") Accepted) the_commit refl (λ e. refl)
+      (sets_at (open_at a_alone (mark_1 ∷ [])) (Idle a_alone) (item (codes "COMMIT") Accepted) [] refl (λ e. refl) tt)))));
+  live = (tt, (tt, (tt, (tt, (tt, (not_live, tt))))));
+}
+
+-- busy, and the transaction stays
+abbrev busy : Answer
+busy = Refused (record { code = pos 5; kind = Unknown }) Stays
+
+abbrev error : Error
+error = DatabaseError Unknown (pos 5)
+
+-- begin, then a commit that is refused, as is the rollback after it
+abbrev broken : List Step
+broken =
+    step_of Begin (codes "BEGIN") Accepted (done (Ok tt) (at 1))
+    ∷ record { deed = Commit; items = item (codes "COMMIT") busy ∷ item (codes "ROLLBACK") busy ∷ []; answer = done (Err (RollbackErrorOnCommit (flat error) (flat error))) InError }
+    ∷ []
+
+broken_follows : IsHistory Sqlite broken InError
+unfolding class is_begin is_built is_write same_text begins number_behind digits
+broken_follows = record {
+  state = open_at [] [];
+  follows = (tt, (open_at [] [], record { whatever_follows = λ more. refl }, (tt, (open_at [] [], record { whatever_follows = λ more. refl }, (refl, refl)))));
+}

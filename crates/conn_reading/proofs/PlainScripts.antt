@@ -1,0 +1,158 @@
+-- The commands of a valid script send plain texts.
+use Rattle.std.proofs.Common.{◌≡◌, ℕ, ◌+◌, Bool, true, false, ◌&&◌, ◌||◌, not, if◌then◌else◌, List, [], ◌∷◌, ◌++◌, codes, length, take, drop, refl, sym, ap, ◌∙◌, subst, Option, Some, None, Ok, Err, nat_eq, nat_lt, nat_le, arith}
+use Rattle.std.specs.Prelude.{◌==◌, ⊤}
+use Rattle.std.specs.List.{list_all, starts_with}
+use Rattle.std.specs.Option.{option_map, is_none}
+use Rattle.std.specs.Str.{bytes_eq, is_utf8}
+use Rattle.std.proofs.lemmas.List.{take-append-drop}
+use Rattle.std.proofs.lemmas.Slice.Eq.{bytes_eq-Decides}
+use Rattle.conn_model.specs.Classes.{class, begins, is_begin, is_built, is_write, same_text, number_behind}
+use Rattle.conn_model.specs.Numbers.{number}
+use Rattle.conn_script.specs.Grammar.{word_named, connection_alone, act_from, act_of, empty_script, with_command, with_words, next, lines_of, finished, or_bad, judged, script_of}
+use Rattle.conn_script.specs.Options.{◌>>=◌, guard}
+use Rattle.conn_script.specs.Plans.{refused_of, with_refused}
+use Rattle.conn_script.specs.Words.{split_at, is_statement, begins_statement, has_mark}
+use Rattle.conn_script.specs.declared.command.Act.TheVariants as acts
+use Rattle.conn_script.specs.declared.command.Command.{Command}
+use Rattle.conn_script.specs.declared.command.Script.{Script}
+use Rattle.conn_script.specs.declared.command.Word.{Word}
+use Rattle.conn_script.specs.declared.command.Word.TheVariants as words
+use Rattle.conn_reading.specs.Sessions.{SendsPlain, AllPlain}
+use Rattle.conn_reading.specs.Verdicts.{is_plain}
+
+-- ---- a statement text
+
+begins_so : (w t : List ℕ) → starts_with nat_eq t w ≡ true → t ≡ w ++ drop (length w) t
+begins_so w t h =
+    let same : w ≡ take (length w) t = (bytes_eq-Decides w (take (length w) t)).0 h in
+    sym (take-append-drop (length w) t) ∙ ap (λ (x : List ℕ). x ++ drop (length w) t) (sym same)
+
+select_plain : (rest : List ℕ) → is_plain (class (codes "SELECT" ++ rest)) ≡ true
+unfolding class begins is_begin is_built is_write same_text number_behind
+select_plain rest = refl
+
+insert_plain : (rest : List ℕ) → is_plain (class (codes "INSERT" ++ rest)) ≡ true
+unfolding class begins is_begin is_built is_write same_text number_behind
+insert_plain rest = refl
+
+update_plain : (rest : List ℕ) → is_plain (class (codes "UPDATE" ++ rest)) ≡ true
+unfolding class begins is_begin is_built is_write same_text number_behind
+update_plain rest = refl
+
+delete_plain : (rest : List ℕ) → is_plain (class (codes "DELETE" ++ rest)) ≡ true
+unfolding class begins is_begin is_built is_write same_text number_behind
+delete_plain rest = refl
+
+empty_plain : is_plain (class []) ≡ true
+unfolding class begins is_begin is_built is_write same_text number_behind
+empty_plain = refl
+
+space_plain : (rest : List ℕ) → is_plain (class (32 ∷ rest)) ≡ true
+unfolding class begins is_begin is_built is_write same_text number_behind
+space_plain rest = refl
+
+spaces_plain : (t : List ℕ) → list_all (λ b. b == 32) t ≡ true → is_plain (class t) ≡ true
+spaces_plain [] h = empty_plain
+spaces_plain (b ∷ bs) h = first (b == 32) refl h
+  where
+    first : (c : Bool) → (b == 32) ≡ c → (c && list_all (λ b. b == 32) bs) ≡ true → is_plain (class (b ∷ bs)) ≡ true
+    first true e g = let z : 32 ≡ b = grind arith in subst (λ (x : ℕ). is_plain (class (x ∷ bs)) ≡ true) z (space_plain bs)
+    first false e g = absurd (cc)
+
+word_plain : (t : List ℕ) → begins_statement t ≡ true → is_plain (class t) ≡ true
+word_plain t h = by_word (starts_with nat_eq t (codes "SELECT")) (starts_with nat_eq t (codes "INSERT")) (starts_with nat_eq t (codes "UPDATE")) (starts_with nat_eq t (codes "DELETE")) refl refl refl refl h
+  where
+    plain_if : (x : List ℕ) → t ≡ x → is_plain (class x) ≡ true → is_plain (class t) ≡ true
+    plain_if x e g = subst (λ (y : List ℕ). is_plain (class y) ≡ true) (sym e) g
+
+    by_word : (a b c e : Bool) → starts_with nat_eq t (codes "SELECT") ≡ a → starts_with nat_eq t (codes "INSERT") ≡ b → starts_with nat_eq t (codes "UPDATE") ≡ c → starts_with nat_eq t (codes "DELETE") ≡ e → (a || b || c || e) ≡ true → is_plain (class t) ≡ true
+    by_word true b c e p q r u g = plain_if (codes "SELECT" ++ drop 6 t) (begins_so (codes "SELECT") t p) (select_plain (drop 6 t))
+    by_word false true c e p q r u g = plain_if (codes "INSERT" ++ drop 6 t) (begins_so (codes "INSERT") t q) (insert_plain (drop 6 t))
+    by_word false false true e p q r u g = plain_if (codes "UPDATE" ++ drop 6 t) (begins_so (codes "UPDATE") t r) (update_plain (drop 6 t))
+    by_word false false false true p q r u g = plain_if (codes "DELETE" ++ drop 6 t) (begins_so (codes "DELETE") t u) (delete_plain (drop 6 t))
+    by_word false false false false p q r u g = absurd (cc)
+
+pub statement_plain : (t : List ℕ) → is_statement t ≡ true → is_plain (class t) ≡ true
+statement_plain t h = by_case (list_all (λ b. b == 32) t) (begins_statement t) refl refl h
+  where
+    by_case : (a b : Bool) → list_all (λ b. b == 32) t ≡ a → begins_statement t ≡ b → ((a || b) && not (has_mark t) && nat_le (length t) 65536) ≡ true → is_plain (class t) ≡ true
+    by_case true b p q g = spaces_plain t p
+    by_case false true p q g = word_plain t q
+    by_case false false p q g = absurd (cc)
+
+-- ---- the grammar
+
+abbrev pub IfThere : {A : Type 0} → (A → Type 0) → Option A → Type 0
+IfThere P None = ⊤
+IfThere P (Some x) = P x
+
+there_bind : {A B : Type 0} (Q : B → Type 0) (o : Option A) (f : A → Option B) → ((x : A) → IfThere Q (f x)) → IfThere Q (o >>= f)
+there_bind Q None f h = tt
+there_bind Q (Some x) f h = h x
+
+there_bind_if : {A B : Type 0} (P : A → Type 0) (Q : B → Type 0) (o : Option A) (f : A → Option B) → IfThere P o → ((x : A) → P x → IfThere Q (f x)) → IfThere Q (o >>= f)
+there_bind_if P Q None f g h = tt
+there_bind_if P Q (Some x) f g h = h x g
+
+there_map : {A B : Type 0} (Q : B → Type 0) (o : Option A) (f : A → B) → ((x : A) → Q (f x)) → IfThere Q (option_map f o)
+there_map Q None f h = tt
+there_map Q (Some x) f h = h x
+
+there_guard : {A : Type 0} (P : A → Type 0) (b : Bool) (x : A) → (b ≡ true → P x) → IfThere P (guard b x)
+there_guard P true x h = h refl
+there_guard P false x h = tt
+
+act_plain : (word : Word) (rest : Option (List ℕ)) → IfThere SendsPlain (act_from word rest)
+act_plain words.Get rest = there_guard SendsPlain (is_none rest) acts.Get (λ e. tt)
+act_plain words.Put rest = there_map SendsPlain (connection_alone rest) acts.Put (λ n. tt)
+act_plain words.Batch rest =
+    there_bind SendsPlain rest _ (λ text. there_bind SendsPlain (number 4294967296 (split_at 32 text).0) _ (λ c. there_bind SendsPlain (split_at 32 text).1 _ (λ statement.
+    there_guard SendsPlain (is_statement statement) (acts.Batch c statement) (statement_plain statement))))
+act_plain words.Begin rest = there_map SendsPlain (connection_alone rest) acts.Begin (λ n. tt)
+act_plain words.Commit rest = there_map SendsPlain (connection_alone rest) acts.Commit (λ n. tt)
+act_plain words.Rollback rest = there_map SendsPlain (connection_alone rest) acts.Rollback (λ n. tt)
+
+plain-append : (xs ys : List Command) → AllPlain xs → AllPlain ys → AllPlain (xs ++ ys)
+plain-append [] ys h g = g
+plain-append (x ∷ xs) ys h g = (h.0, plain-append xs ys h.1 g)
+
+abbrev pub ScriptPlain : Script → Type 0
+ScriptPlain script = AllPlain script.commands
+
+words_plain : (n : ℕ) (script : Script) (line : List ℕ × Option (List ℕ)) → ScriptPlain script → IfThere ScriptPlain (with_words n script line)
+words_plain n script line h = by_word (bytes_eq line.0 (codes "refuse"))
+  where
+    by_word : (b : Bool) → IfThere ScriptPlain (if b then (refused_of line.1 >>= with_refused script) else (act_of line.0 line.1 >>= with_command n script))
+    by_word true = there_bind ScriptPlain (refused_of line.1) (with_refused script) (λ r. there_guard ScriptPlain _ _ (λ e. h))
+    by_word false = there_bind_if SendsPlain ScriptPlain (act_of line.0 line.1) (with_command n script) (there_bind SendsPlain (word_named line.0) (λ word. act_from word line.1) (λ word. act_plain word line.1))
+        (λ act g. there_guard ScriptPlain (nat_lt (length script.commands) 1048576) _ (λ e. plain-append script.commands (record { line = n; act = act } ∷ []) h (g, tt)))
+
+next_plain : (n : ℕ) (o : Option Script) (line : List ℕ) → IfThere ScriptPlain o → IfThere ScriptPlain (next n o line)
+next_plain n None line h = there_guard ScriptPlain (bytes_eq line (codes "session sqlite 1 nop nocheck")) empty_script (λ e. tt)
+next_plain n (Some script) line h =
+    elim (is_utf8 line) as (λ b. IfThere ScriptPlain (if b then with_words n script (split_at 32 line) else None)) [
+      | true ↦ words_plain n script (split_at 32 line) h
+      | false ↦ tt
+    ]
+
+finished_plain : (n : ℕ) (o : Option Script) (last : List ℕ) (script : Script) → IfThere ScriptPlain o → finished n o last ≡ Ok script → ScriptPlain script
+finished_plain n (Some s) [] script h is = let e : s ≡ script = cc in subst ScriptPlain e h
+finished_plain n (Some s) (b ∷ bs) script h is = absurd (cc)
+finished_plain n None last script h is = absurd (cc)
+
+judged_plain : (n : ℕ) (o : Option Script) (lines : List (List ℕ)) (script : Script) → IfThere ScriptPlain o → judged n o lines ≡ Ok script → ScriptPlain script
+judged_plain n o [] script h is = absurd (cc)
+judged_plain n o (last ∷ []) script h is = finished_plain n o last script h is
+judged_plain n o (line ∷ more ∷ lines) script h is = go (next n o line) (next_plain n o line h) is (λ s g e. judged_plain (n + 1) (Some s) (more ∷ lines) script g e)
+  where
+    go : (m : Option Script) → IfThere ScriptPlain m → or_bad n m (λ s. judged (n + 1) (Some s) (more ∷ lines)) ≡ Ok script → ((s : Script) → ScriptPlain s → judged (n + 1) (Some s) (more ∷ lines) ≡ Ok script → ScriptPlain script) → ScriptPlain script
+    go None g e rest = absurd (cc)
+    go (Some s) g e rest = rest s g e
+
+-- a valid script
+pub script_plain : (bytes : List ℕ) (script : Script) → script_of bytes ≡ Ok script → AllPlain script.commands
+script_plain bytes script is = by_size (nat_lt 16777216 (length bytes)) is
+  where
+    by_size : (b : Bool) → (if b then Err 0 else judged 1 None (lines_of bytes)) ≡ Ok script → AllPlain script.commands
+    by_size true e = absurd (cc)
+    by_size false e = judged_plain 1 None (lines_of bytes) script tt e

@@ -1,0 +1,113 @@
+-- The histories of all connections of a session, as far as their logs are read.
+use Rattle.std.proofs.Common.{◌≡◌, ℕ, ◌+◌, ◌<◌, ◌≤◌, Bool, true, false, if◌then◌else◌, List, [], length, Option, Some, None, refl, sym, ap, subst, ◌∙◌, arith}
+use Rattle.std.specs.Prelude.{◌==◌, is_some}
+use Rattle.conn_model.specs.declared.item.Dialect.{Dialect}
+use Rattle.conn_model.specs.declared.item.Item.{Item}
+use Rattle.conn_manager.specs.Statuses.{no_depth}
+use Rattle.conn_report.specs.declared.entry.Entry.{Entry}
+use Rattle.conn_report.specs.declared.entry.Reply.{Reply}
+use Rattle.conn_script.specs.declared.command.Word.{Word}
+use Rattle.conn_reading.specs.Answered.{Logs, Progress, Taken}
+use Rattle.conn_reading.specs.Folds.{Stack, alone, AllKeepLive}
+use Rattle.conn_reading.specs.Histories.{items_of}
+use Rattle.conn_reading.specs.Seats.{Seat}
+use Rattle.conn_reading.specs.Sessions.{Each, IsMarked, IsRecorded, IsClean, Folded, mark_of, after_word, after_mark, between, after_entry, EntryLive}
+use Rattle.conn_reading.proofs.EachSeat.{held, count}
+use Rattle.conn_reading.proofs.Tracks.{Track, IsTrack, no_track, track_recorded, folded, folded_at, between_none}
+
+-- for each connection, by its number, its history
+abbrev pub Tracks : Type 0
+Tracks = ℕ → Track
+
+-- a connection is as its history leaves it
+pub record SeatIs (t : Track) (seat : Seat) : Type 0 where
+  pub status : t.status ≡ seat.status
+  pub state : t.state ≡ seat.state
+  pub mark : length (items_of t.steps) ≡ seat.mark
+
+abbrev pub SeatOf : Tracks → Seat → Type 0
+SeatOf tracks seat = SeatIs (tracks seat.number) seat
+
+abbrev pub IsFree : Seat → Type 0
+IsFree seat = seat.status ≡ no_depth
+
+-- each connection is as its history leaves it and has a number of its own, those in slots have no depth, and no server that
+-- isn't opened is read
+pub record Keeps (d : Dialect) (logs left : Logs) (tracks : Tracks) (slots out : List Seat) (opened : ℕ) : Type 0 where
+  pub tracked : (n : ℕ) → IsTrack d (logs n) (left n) (tracks n)
+  pub unopened : (n : ℕ) → opened ≤ n → tracks n ≡ no_track
+  pub in_slots : Each (SeatOf tracks) slots
+  pub free : Each IsFree slots
+  pub in_out : Each (SeatOf tracks) out
+  pub once : (n : ℕ) → count n slots + count n out ≤ 1
+  pub none : (n : ℕ) → opened ≤ n → count n slots + count n out ≡ 0
+
+abbrev pub ProgressKeeps : Dialect → Logs → Logs → Tracks → Progress → Type 0
+ProgressKeeps d logs left tracks p = Keeps d logs left tracks (held p.context.slots) p.context.out p.context.opened
+
+-- what an entry says, between the histories before it and after it
+pub record EntrySays (d : Dialect) (logs : Logs) (before after : Tracks) (opened : ℕ) (e : Entry) : Type 0 where
+  pub recorded : IsMarked (IsRecorded d) logs e.connection e.status e.mark
+  pub clean : IsClean e.word e.reply e.status
+  pub folds : (n : ℕ) → after_entry n (logs n) e (folded (before n)) ≡ folded (after n)
+  pub live : (n : ℕ) → EntryLive n (logs n) e (folded (before n)) → AllKeepLive (before n).steps (alone []) → AllKeepLive (after n).steps (alone [])
+  pub opened_before : (n : ℕ) → is_some (mark_of n e.connection e.mark) ≡ true → n < opened
+
+-- after a command
+pub record TakenKeeps (d : Dialect) (logs : Logs) (before : Tracks) (opened : ℕ) (t : Taken) : Type 0 where
+  pub tracks : Tracks
+  pub progress : ProgressKeeps d logs t.left tracks t.progress
+  pub dialect : t.progress.dialect ≡ d
+  pub grows : opened ≤ t.progress.context.opened
+  pub entry : EntrySays d logs before tracks t.progress.context.opened t.entry
+
+-- an entry of one number alone
+only_then : (n c m : ℕ) (P : Option ℕ → Type 0) → (c ≡ n → P (Some m)) → P None → P (mark_of n (Some c) (Some m))
+only_then n c m P some none = by_case (c == n) refl
+  where
+    by_case : (b : Bool) → (c == n) ≡ b → P (if b then Some m else None)
+    by_case true e = some (grind arith)
+    by_case false e = none
+
+-- an entry of a connection that nothing is read of
+still_folds : (n c m : ℕ) (log : List Item) (word : Word) (reply : Reply) (f : Folded) → ((k : Stack) → after_word word reply k ≡ k) → (c ≡ n → m ≡ f.mark) → after_mark log word reply f (mark_of n (Some c) (Some m)) ≡ f
+still_folds n c m log word reply f steady same = only_then n c m (λ (o : Option ℕ). after_mark log word reply f o ≡ f) (λ e. folded_at m f.mark _ f.stack (same e) (steady (between log f m) ∙ between_none log f m (same e))) refl
+
+-- of an entry without a mark nothing is said
+pub says_nothing : (d : Dialect) (logs : Logs) (tracks : Tracks) (opened line : ℕ) (word : Word) (connection : Option ℕ) (reply : Reply) → IsClean word reply None
+    → EntrySays d logs tracks tracks opened (record { line = line; word = word; connection = connection; reply = reply; status = None; mark = None })
+says_nothing d logs tracks opened line word connection reply clean = record {
+  recorded = tt;
+  clean = clean;
+  folds = λ n. by_number n connection;
+  live = λ n h l. l;
+  opened_before = λ n is. absurd (never n connection is);
+}
+  where
+    unmarked : (n : ℕ) (b : Bool) → after_mark (logs n) word reply (folded (tracks n)) (if b then None else None) ≡ folded (tracks n)
+    unmarked n true = refl
+    unmarked n false = refl
+
+    by_number : (n : ℕ) (c : Option ℕ) → after_mark (logs n) word reply (folded (tracks n)) (mark_of n c None) ≡ folded (tracks n)
+    by_number n None = refl
+    by_number n (Some c) = unmarked n (c == n)
+
+    no_mark : (b : Bool) → (let o : Option ℕ = if b then None else None in is_some o) ≡ true → ⊥
+    no_mark true is = absurd (cc)
+    no_mark false is = absurd (cc)
+
+    never : (n : ℕ) (c : Option ℕ) → is_some (mark_of n c None) ≡ true → ⊥
+    never n None is = absurd (cc)
+    never n (Some c) is = no_mark (c == n) is
+
+-- an entry of a connection that is there, and that nothing is read of
+pub says_still : (d : Dialect) (logs left : Logs) (tracks : Tracks) (opened line : ℕ) (word : Word) (reply : Reply) (seat : Seat) → ((n : ℕ) → IsTrack d (logs n) (left n) (tracks n)) → SeatOf tracks seat
+    → ((k : Stack) → after_word word reply k ≡ k) → IsClean word reply (Some seat.status) → seat.number < opened
+    → EntrySays d logs tracks tracks opened (record { line = line; word = word; connection = Some seat.number; reply = reply; status = Some seat.status; mark = Some seat.mark })
+says_still d logs left tracks opened line word reply seat tracked is steady clean low = record {
+  recorded = track_recorded d (logs seat.number) (left seat.number) (tracks seat.number) seat.status seat.mark (tracked seat.number) is.status is.mark;
+  clean = clean;
+  folds = λ n. still_folds n seat.number seat.mark (logs n) word reply (folded (tracks n)) steady (λ e. sym is.mark ∙ ap (λ (k : ℕ). length (items_of (tracks k).steps)) e);
+  live = λ n h l. l;
+  opened_before = λ n. only_then n seat.number seat.mark (λ (o : Option ℕ). is_some o ≡ true → n < opened) (λ e h. subst (λ (k : ℕ). k < opened) e low) (λ h. absurd (cc));
+}

@@ -1,0 +1,9 @@
+pub mod Calls
+pub mod Reading
+pub mod Seats
+pub mod Answered
+pub mod Readings
+pub mod Verdicts
+pub mod Histories
+pub mod Folds
+pub mod Sessions

@@ -1,0 +1,63 @@
+//! Laws of the tracked status: of the calls of one connection, and of the entries of a session. Each function does nothing:
+//! its contract is the law.
+ghost use Rattle.std.specs.Prelude.{◌≡◌, ℕ, true, List, [], Some, Ok};
+ghost use Rattle.std.specs.Option.{option_map};
+ghost use Rattle.conn_model.specs.States.{state_of, kept};
+ghost use Rattle.conn_model.specs.declared.item.Dialect.{Dialect};
+ghost use Rattle.conn_manager.specs.Statuses.{Status};
+ghost use Rattle.conn_report.specs.declared.entry.Entry.{Entry};
+ghost use Rattle.conn_script.specs.Grammar.{script_of};
+ghost use Rattle.conn_script.specs.declared.command.Script.{Script};
+ghost use Rattle.conn_reading.specs.Answered.{Logs, answered};
+ghost use Rattle.conn_reading.specs.Verdicts.{Verdict, StandsOver};
+ghost use Rattle.conn_reading.specs.Folds.{alone, fold_of, FoldPremises, NestedMeaning};
+ghost use Rattle.conn_reading.specs.Histories.{Step, items_of, IsHistory};
+ghost use Rattle.conn_reading.specs.Sessions.{EachRecorded, EachVerdict, EachStandsOver, EachClean, EntryPremises, is_opened, unfolded, fold_entries};
+
+/// After any calls of a new connection its status is borne out by its server's log.
+pub fn status_is_borne_out()
+    ensures { (d : Dialect) (steps : List Step) (S : Status) → IsHistory d steps S → Verdict d S (items_of steps) }
+{}
+
+/// After any calls of a new connection the depth that is tracked stands over its server.
+pub fn depth_stands_over_the_server()
+    ensures { (d : Dialect) (steps : List Step) (S : Status) → IsHistory d steps S → StandsOver d S (items_of steps) }
+{}
+
+/// After any calls of a new connection its server holds the stack of the fold, where no text of a transaction was refused,
+/// no savepoint was set in an idle server, and no level in which the transaction was aborted was kept.
+pub fn server_holds_the_stack()
+    ensures { (d : Dialect) (steps : List Step) (S : Status) → IsHistory d steps S → FoldPremises d steps → NestedMeaning d S (items_of steps) (fold_of steps (alone [])) }
+{}
+
+/// So the writes that the server keeps are the fold of the calls.
+pub fn kept_writes_are_the_fold()
+    ensures { (d : Dialect) (steps : List Step) (S : Status) → IsHistory d steps S → FoldPremises d steps → option_map kept (state_of d (items_of steps)) ≡ Some (fold_of steps (alone [])).lowest }
+{}
+
+/// Each status that a session's entries show is what a history of its connection ends with, and the server's log up to the
+/// entry's mark is the log of that history.
+pub fn entries_are_recorded()
+    ensures { (bytes : List ℕ) (script : Script) (logs : Logs) (entries : List Entry) → script_of bytes ≡ Ok script → answered script logs ≡ Some entries → EachRecorded script.dialect logs entries }
+{}
+
+/// So each status is borne out by its server's log up to the mark.
+pub fn entries_are_borne_out()
+    ensures { (bytes : List ℕ) (script : Script) (logs : Logs) (entries : List Entry) → script_of bytes ≡ Ok script → answered script logs ≡ Some entries → EachVerdict script.dialect logs entries }
+{}
+
+/// And each depth stands over its server up to the mark.
+pub fn depths_stand_over_their_servers()
+    ensures { (bytes : List ℕ) (script : Script) (logs : Logs) (entries : List Entry) → script_of bytes ≡ Ok script → answered script logs ≡ Some entries → EachStandsOver script.dialect logs entries }
+{}
+
+/// Each connection that `get` hands out is valid and without a depth.
+pub fn connections_are_handed_out_clean()
+    ensures { (bytes : List ℕ) (script : Script) (logs : Logs) (entries : List Entry) → script_of bytes ≡ Ok script → answered script logs ≡ Some entries → EachClean entries }
+{}
+
+/// The writes that a server keeps in the end are the fold of its connection's entries, where no text of a transaction was
+/// refused, no savepoint was set in an idle server, and no level in which the transaction was aborted was kept.
+pub fn kept_writes_are_the_fold_of_entries()
+    ensures { (bytes : List ℕ) (script : Script) (logs : Logs) (entries : List Entry) → script_of bytes ≡ Ok script → answered script logs ≡ Some entries → (n : ℕ) → is_opened n entries ≡ true → EntryPremises script.dialect n (logs n) entries → option_map kept (state_of script.dialect (logs n)) ≡ Some (fold_entries n (logs n) entries unfolded).stack.lowest }
+{}
