@@ -1,0 +1,80 @@
+-- What the whole call answers.
+use Rattle.std.specs.Prelude.{ℕ, ◌≡◌, ◌⊎◌, Bool, true, List, [], ◌∷◌, map, Option, Some, None, Result, Ok, Err, codes, string_bytes, MatchResult}
+use Rattle.std.specs.Option.{option_map}
+use Rattle.std.specs.declared.string.String.{String}
+use Rattle.std.specs.declared.alloc.Global.{Global}
+use Rattle.conn_model.specs.States.{state_of, kept}
+use Rattle.conn_reading.specs.Answered.{answered, servers_opened}
+use Rattle.conn_reading.specs.Sessions.{EachVerdict, EachStandsOver, EachClean, EntryPremises, is_opened, fold_entries, unfolded}
+use Rattle.conn_report.specs.declared.entry.Entry.{Entry}
+use Rattle.conn_report.specs.declared.entry.Transcript.{Transcript}
+use Rattle.conn_report.specs.Report.{report}
+use Rattle.conn_script.specs.Grammar.{script_of}
+use Rattle.conn_script.specs.declared.command.Script.{Script}
+use Rattle.conn_script.specs.declared.command.SessionError.{SessionError}
+use Rattle.conn_script.specs.declared.command.SessionError.TheVariants.{BadScript, OutOfMemory}
+use Rattle.conn_server.specs.Connected.{Connected}
+use Rattle.conn_session.specs.Accounts.{logs_of, servers_of}
+use Rattle.conn_session.specs.Plays.{IsPlayed}
+
+-- the logs of the servers that are back answer these entries to the script, and say how many servers were opened
+pub record IsAnswered (script : Script) (k : Connected) (entries : List Entry) : Type 0 where
+  pub entries_are : answered script (logs_of k.returned) ≡ Some entries
+  pub opened : servers_opened script (logs_of k.returned) ≡ Some k.opened
+
+-- the logs of the servers that are back bear the entries out: each status up to its mark, each depth over its server, no depth
+-- where `get` hands out; and a server kept the fold of its connection's entries, under the premises of the fold
+pub record AreBorneOut (script : Script) (k : Connected) (entries : List Entry) : Type 0 where
+  pub verdicts : EachVerdict script.dialect (logs_of k.returned) entries
+  pub depths : EachStandsOver script.dialect (logs_of k.returned) entries
+  pub clean : EachClean entries
+  pub folds : (n : ℕ) → is_opened n entries ≡ true → EntryPremises script.dialect n (logs_of k.returned n) entries
+      → option_map kept (state_of script.dialect (logs_of k.returned n)) ≡ Some (fold_entries n (logs_of k.returned n) entries unfolded).stack.lowest
+
+-- some bytes stand for the script
+pub record IsParsed (script : Script) : Type 0 where
+  pub bytes : List ℕ
+  pub parses : script_of bytes ≡ Ok script
+
+-- a transcript of a script over the servers that were taken back: its commands gave the entries, and the servers kept the
+-- writes; an honest connector was armed with the script's plan, and its servers' logs answer the entries to the script and
+-- bear them out
+pub record Transcribes (honest tells : Bool) (script : Script) (k : Connected) (t : Transcript) : Type 0 where
+  pub entries : IsPlayed script.commands t.entries
+  pub servers : t.servers ≡ servers_of tells k.opened k.returned
+  pub armed : honest ≡ true → k.armed ≡ script.plan
+  pub answered : honest ≡ true → IsAnswered script k t.entries
+  pub borne_out : honest ≡ true → AreBorneOut script k t.entries
+
+-- a bad script runs nothing; the line isn't told yet
+pub record IsBad (old new : Connected) (error : SessionError) : Type 0 where
+  pub error_is : (error ≡ BadScript 0) ⊎ (error ≡ OutOfMemory)
+  pub same : new ≡ old
+
+-- a session of these bytes, which are a script or not
+abbrev pub Sessions : Bool → Bool → Result Script ℕ → Connected → Connected → Result Transcript SessionError → Type 0
+Sessions honest tells (Ok script) old new result = MatchResult result (Transcribes honest tells script new) (λ e. e ≡ OutOfMemory)
+Sessions honest tells (Err line) old new result = MatchResult result (λ t. ⊥) (IsBad old new)
+
+-- the line for a bad script, whose bad line isn't told yet
+abbrev pub bad_line : List ℕ
+bad_line = codes "bad line 0\n"
+
+-- status 0 and a report of a script's transcript, or status 1 and the bad line with nothing run
+abbrev pub Answers : Bool → Bool → Result Script ℕ → Connected → Connected → ℕ → List ℕ → Type 0
+Answers honest tells (Ok script) old new status text = (status ≡ 0) × ((t : Transcript) × Transcribes honest tells script new t × (text ≡ report t.entries t.servers))
+Answers honest tells (Err line) old new status text = (status ≡ 1) × (new ≡ old) × (text ≡ bad_line)
+
+-- the words of the command line are this one word
+abbrev pub IsRun : List (String Global) → Type 0
+IsRun words = map string_bytes words ≡ codes "run" ∷ []
+
+-- a text answers what the source had left, where it tells
+abbrev pub AnswersLeft : Bool → Bool → Option (List ℕ) → Connected → Connected → ℕ → List ℕ → Type 0
+AnswersLeft honest tells None old new status text = Unit {0}
+AnswersLeft honest tells (Some bytes) old new status text = Answers honest tells (script_of bytes) old new status text
+
+-- where nothing failed, a script is answered 0 and other bytes 1, unless memory ran out
+abbrev pub IsComplete : Option (List ℕ) → ℕ → Type 0
+IsComplete None status = Unit {0}
+IsComplete (Some bytes) status = (status ≡ 4) ⊎ MatchResult (script_of bytes) (λ _. status ≡ 0) (λ _. status ≡ 1)

@@ -1,0 +1,5 @@
+pub mod Plays
+pub mod Accounts
+pub mod Worlds
+pub mod Known
+pub mod Commands

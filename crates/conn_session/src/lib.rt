@@ -1,0 +1,17 @@
+//! Runs sessions: the commands of a script over the servers that a connector opens.
+#![tactic(auto)]
+
+mod connection;
+mod run;
+mod session;
+mod top;
+mod transcript;
+
+pub use conn_io::{BytesSink, BytesSource, Failed, Sink, Source};
+pub use conn_report::{Entry, Reply, Transcript, Word, render};
+pub use conn_script::{Script, SessionError, parse_script};
+pub use connection::ServerConnection;
+pub use run::{close_all, run_all};
+pub use session::{Opening, Session};
+pub use top::run_command;
+pub use transcript::run_session;
