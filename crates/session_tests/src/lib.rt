@@ -1,0 +1,7 @@
+//! Tests of whole sessions over servers in memory: where the source or the sink fails, and where nothing is run.
+#![tactic(auto)]
+
+#[cfg(test)]
+mod manager_tests;
+#[cfg(test)]
+mod tests;

@@ -1,0 +1,142 @@
+//! Whole runs, from words and bytes to a status and bytes, over servers in memory.
+ghost use Rattle.std.specs.Prelude.{◌<◌};
+
+use conn_server::ScriptedConnector;
+use conn_session::{BytesSink, BytesSource, run_command};
+use std::alloc::{AllocError, Global};
+use std::test::Fail;
+
+const ONE_WRITE: &[u8] = b"session sqlite 1 nop nocheck\nget\nbatch 0 INSERT a\nput 0\n";
+
+const ONE_WRITE_REPORT: &[u8] =
+    b"2 get 0 | ok | none | 0\n3 batch 0 | ok | none | 1\n4 put 0 | kept | none | 1\nserver 0 1\nwrite INSERT a\ndone 3 1\n";
+
+/// The commands in which a savepoint's name is used again over one that stayed after a rollback to it.
+const NAME_AGAIN: &[u8] =
+    b"get\nbegin 0\nbatch 0 INSERT a\nbegin 0\nbatch 0 INSERT b\nrollback 0\nbegin 0\nbatch 0 INSERT c\ncommit 0\ncommit 0\nput 0\n";
+
+/// A status, and the bytes that were written.
+#[derive(Drop)]
+struct Ended {
+    status: u8,
+    written: Vec<u8>,
+}
+
+/// Runs a script, from a source and into a sink of which these calls fail.
+fn run_between(
+    alloc: Global,
+    word: &str,
+    script: &[u8],
+    failing_reads: &[u64],
+    write_takes: usize,
+    failing_writes: &[u64],
+) -> Result<Ended, AllocError>
+    requires { 0 < write_takes }
+{
+    let mut words = Vec::new(alloc);
+    words.push(String::from_str(alloc, word)?)?;
+    let mut source = BytesSource::new(alloc, script, 4096, failing_reads)?;
+    let mut sink = BytesSink::new(alloc, 4096, write_takes, failing_writes)?;
+    let mut connector = ScriptedConnector::new(alloc);
+    let status = run_command(alloc, &words, &mut source, &mut sink, &mut connector);
+    let written = Vec::from_slice(alloc, sink.bytes())?;
+    Ok(Ended { status, written })
+}
+
+/// Runs a script where nothing fails.
+fn run_whole(alloc: Global, script: &[u8]) -> Result<Ended, AllocError> {
+    run_between(alloc, "run", script, &[], 4096, &[])
+}
+
+/// The run with the name that comes again, with one refusal.
+fn refused_once(alloc: Global, item: &[u8], wish: &[u8]) -> Result<Vec<u8>, AllocError> {
+    let mut script = Vec::from_slice(alloc, b"session sqlite 1 nop nocheck\nrefuse 0 ")?;
+    script.extend_from_slice(item)?;
+    script.extend_from_slice(b" 5 - ")?;
+    script.extend_from_slice(wish)?;
+    script.extend_from_slice(b"\n")?;
+    script.extend_from_slice(NAME_AGAIN)?;
+    Ok(script)
+}
+
+#[test]
+fn a_write_is_reported_and_kept(rt: HostRuntime) -> Result<(), Fail> {
+    let ended = run_whole(rt.alloc(), ONE_WRITE)?;
+    assert_eq!(rt; ended.status, 0);
+    assert_eq!(rt; ended.written.as_slice(), ONE_WRITE_REPORT);
+    Ok(())
+}
+
+#[test]
+fn another_word_reads_and_writes_nothing(rt: HostRuntime) -> Result<(), Fail> {
+    let ended = run_between(rt.alloc(), "walk", ONE_WRITE, &[], 4096, &[])?;
+    assert_eq!(rt; ended.status, 5);
+    assert_eq!(rt; ended.written.len(), 0);
+    Ok(())
+}
+
+#[test]
+fn a_sink_that_fails_holds_a_prefix(rt: HostRuntime) -> Result<(), Fail> {
+    let ended = run_between(rt.alloc(), "run", ONE_WRITE, &[], 16, &[2])?;
+    assert_eq!(rt; ended.status, 3);
+    assert_eq!(rt; ended.written.as_slice(), b"2 get 0 | ok | n".as_slice());
+    Ok(())
+}
+
+#[test]
+fn whichever_write_fails_the_sink_holds_a_prefix(rt: HostRuntime) -> Result<(), Fail> {
+    for k in 1..8u64 {
+        let ended = run_between(rt.alloc(), "run", ONE_WRITE, &[], 16, &[k])?;
+        assert_eq!(rt; ended.status, 3);
+        assert_eq!(rt; ended.written.len() as u64, 16 * (k - 1));
+        assert!(rt; ONE_WRITE_REPORT.starts_with(ended.written.as_slice()));
+    }
+    Ok(())
+}
+
+#[test]
+fn whichever_read_fails_nothing_is_written(rt: HostRuntime) -> Result<(), Fail> {
+    for k in 1..3u64 {
+        let ended = run_between(rt.alloc(), "run", ONE_WRITE, &[k], 4096, &[])?;
+        assert_eq!(rt; ended.status, 2);
+        assert_eq!(rt; ended.written.len(), 0);
+    }
+    Ok(())
+}
+
+#[test]
+fn one_refusal_anywhere_is_reported(rt: HostRuntime) -> Result<(), Fail> {
+    let items = [
+        b"1".as_slice(),
+        b"2",
+        b"3",
+        b"4",
+        b"5",
+        b"6",
+        b"7",
+        b"8",
+        b"9",
+    ];
+    for item in items {
+        for wish in [b"stay".as_slice(), b"end", b"lose"] {
+            let script = refused_once(rt.alloc(), item, wish)?;
+            let ended = run_whole(rt.alloc(), &script)?;
+            assert_eq!(rt; ended.status, 0);
+            assert!(rt; ended.written.as_slice().ends_with(b"\ndone 11 1\n"));
+        }
+    }
+    Ok(())
+}
+
+#[test]
+fn a_script_may_be_cut_where_a_line_ends(rt: HostRuntime) -> Result<(), Fail> {
+    let mut script = Vec::from_slice(rt.alloc(), b"session sqlite 1 nop nocheck\n")?;
+    script.extend_from_slice(NAME_AGAIN)?;
+    let mut cut = Vec::new(rt.alloc());
+    for byte in script.iter() {
+        cut.push(*byte)?;
+        let ended = run_whole(rt.alloc(), &cut)?;
+        assert_eq!(rt; ended.status, if *byte == b'\n' { 0 } else { 1 });
+    }
+    Ok(())
+}
