@@ -1,10 +1,10 @@
 -- The same steps over any kind of write: its text, or its place in the log.
-use Rattle.std.specs.Prelude.{◌≡◌, ℕ, zero, suc, Bool, true, false, List, [], ◌∷◌, ◌++◌, map, length, ◌+◌, if◌then◌else◌, nat_eq, slice_index_or, Option, Some, None, refl, ⊤}
+use Rattle.std.specs.Prelude.{◌≡◌, ℕ, zero, suc, Bool, true, false, List, [], ◌∷◌, ◌++◌, map, length, ◌+◌, if◌then◌else◌, nat_eq, Option, Some, None, refl, ⊤}
 use Rattle.std.specs.Option.{option_and_then, option_map}
 use Rattle.std.proofs.Common.{ap, sym, ◌∙◌, arith, subst, length-append, append_assoc}
 use Rattle.std.proofs.lemmas.List.{map-append}
 use Rattle.conn_model.specs.Classes.{class}
-use Rattle.conn_model.specs.States.{MarkOf, TransactionOf, StateOf, Idle, Open, Lost, State, kept, find_mark, other_marks, begun, marked, back_to, let_go, idle_accepts, open_accepts, aborted_accepts, accepts_class, accepts_prepare, accepts_call, open_refuses, refuses, step_with, step, steps, state_of, is_serialization_failure, commits, told_of}
+use Rattle.conn_model.specs.States.{MarkOf, TransactionOf, StateOf, Idle, Open, Lost, State, kept, find_mark, other_marks, back_to, let_go, idle_accepts, open_accepts, aborted_accepts, accepts_class, accepts_prepare, accepts_call, open_refuses, refuses, step_with, steps, state_of, is_serialization_failure, commits, told_of}
 use Rattle.conn_model.specs.declared.item.Answer.{Answer}
 use Rattle.conn_model.specs.declared.item.Answer.TheVariants.{Accepted, Refused}
 use Rattle.conn_model.specs.declared.item.Call.{Call}
