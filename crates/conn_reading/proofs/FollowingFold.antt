@@ -49,6 +49,11 @@ sets_split d s (Ask call text next) (i ∷ is) more a end reads h =
     let rest = sets_split d reads.2.0 (next _) is more a end reads.2.2 (h.1 reads.2.0 reads.2.1) in
     ((h.0, λ mid e. (let same : reads.2.0 ≡ mid = cc (sym reads.2.1 ∙ e) in subst (λ (x : State). SetsInOpen d x is) same rest.0)), rest.1)
 
+-- what is so of items is so of those in front
+pub sets_front : (d : Dialect) (s : State) (items more : List Item) → SetsInOpen d s (items ++ more) → SetsInOpen d s items
+sets_front d s [] more h = tt
+sets_front d s (i ∷ is) more h = (h.0, λ mid e. sets_front d mid is more (h.1 mid e))
+
 follow_folds : (d : Dialect) (S : Status) (s : State) (before : List Item) (steps : List Step) (end : State) (left : Status) (k : Stack) → Sound d S before s → Nested S s k → Follow d s S steps end left
     → list_any refuses_transaction (items_of steps) ≡ false → SetsInOpen d s (items_of steps) → AllKeepLive steps k → Nested left end (fold_of steps k)
 follow_folds d S s before [] end left k sound n f none opens live = rw (f.0, f.1) n

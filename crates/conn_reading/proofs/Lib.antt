@@ -27,6 +27,7 @@ pub mod Tracks
 pub mod Deeds
 pub mod SessionKept
 pub mod SessionMoves
+pub mod SessionNests
 pub mod SessionSlots
 pub mod SessionRuns
 pub mod SessionLaws

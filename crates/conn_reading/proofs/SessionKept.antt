@@ -1,9 +1,9 @@
 -- The histories of all connections of a session, as far as their logs are read.
 use Rattle.std.proofs.Common.{◌≡◌, ℕ, ◌+◌, ◌<◌, ◌≤◌, Bool, true, false, if◌then◌else◌, List, [], length, Option, Some, None, refl, sym, ap, subst, ◌∙◌, arith}
-use Rattle.std.specs.Prelude.{◌==◌, is_some}
+use Rattle.std.specs.Prelude.{◌==◌, is_some, ⊤}
 use Rattle.conn_model.specs.declared.item.Dialect.{Dialect}
 use Rattle.conn_model.specs.declared.item.Item.{Item}
-use Rattle.conn_manager.specs.Statuses.{no_depth}
+use Rattle.conn_manager.specs.Statuses.{Status, no_depth}
 use Rattle.conn_report.specs.declared.entry.Entry.{Entry}
 use Rattle.conn_report.specs.declared.entry.Reply.{Reply}
 use Rattle.conn_script.specs.declared.command.Word.{Word}
@@ -11,9 +11,9 @@ use Rattle.conn_reading.specs.Answered.{Logs, Progress, Taken}
 use Rattle.conn_reading.specs.Folds.{Stack, alone, AllKeepLive}
 use Rattle.conn_reading.specs.Histories.{items_of}
 use Rattle.conn_reading.specs.Seats.{Seat}
-use Rattle.conn_reading.specs.Sessions.{Each, IsMarked, IsRecorded, IsClean, Folded, mark_of, after_word, after_mark, between, after_entry, EntryLive}
+use Rattle.conn_reading.specs.Sessions.{Each, IsClean, Folded, mark_of, after_word, after_mark, between, after_entry, EntryLive}
 use Rattle.conn_reading.proofs.EachSeat.{held, count}
-use Rattle.conn_reading.proofs.Tracks.{Track, IsTrack, no_track, track_recorded, folded, folded_at, between_none}
+use Rattle.conn_reading.proofs.Tracks.{Track, IsTrack, no_track, folded, folded_at, between_none}
 
 -- for each connection, by its number, its history
 abbrev pub Tracks : Type 0
@@ -45,9 +45,23 @@ pub record Keeps (d : Dialect) (logs left : Logs) (tracks : Tracks) (slots out :
 abbrev pub ProgressKeeps : Dialect → Logs → Logs → Tracks → Progress → Type 0
 ProgressKeeps d logs left tracks p = Keeps d logs left tracks (held p.context.slots) p.context.out p.context.opened
 
+-- a history ends with the status, and has read the log up to the mark
+pub record EndsWith (d : Dialect) (log : List Item) (S : Status) (mark : ℕ) (t : Track) : Type 0 where
+  pub left : List Item
+  pub tracked : IsTrack d log left t
+  pub status : t.status ≡ S
+  pub mark_is : length (items_of t.steps) ≡ mark
+
+-- a status comes with a connection and a mark, and is where that connection's history ends
+abbrev pub IsAt : Dialect → Logs → Tracks → Option ℕ → Option Status → Option ℕ → Type 0
+IsAt d logs tracks connection None mark = ⊤
+IsAt d logs tracks None (Some S) mark = ⊥
+IsAt d logs tracks (Some n) (Some S) None = ⊥
+IsAt d logs tracks (Some n) (Some S) (Some mark) = EndsWith d (logs n) S mark (tracks n)
+
 -- what an entry says, between the histories before it and after it
 pub record EntrySays (d : Dialect) (logs : Logs) (before after : Tracks) (opened : ℕ) (e : Entry) : Type 0 where
-  pub recorded : IsMarked (IsRecorded d) logs e.connection e.status e.mark
+  pub at : IsAt d logs after e.connection e.status e.mark
   pub clean : IsClean e.word e.reply e.status
   pub folds : (n : ℕ) → after_entry n (logs n) e (folded (before n)) ≡ folded (after n)
   pub live : (n : ℕ) → EntryLive n (logs n) e (folded (before n)) → AllKeepLive (before n).steps (alone []) → AllKeepLive (after n).steps (alone [])
@@ -62,7 +76,7 @@ pub record TakenKeeps (d : Dialect) (logs : Logs) (before : Tracks) (opened : �
   pub entry : EntrySays d logs before tracks t.progress.context.opened t.entry
 
 -- an entry of one number alone
-only_then : (n c m : ℕ) (P : Option ℕ → Type 0) → (c ≡ n → P (Some m)) → P None → P (mark_of n (Some c) (Some m))
+pub only_then : (n c m : ℕ) (P : Option ℕ → Type 0) → (c ≡ n → P (Some m)) → P None → P (mark_of n (Some c) (Some m))
 only_then n c m P some none = by_case (c == n) refl
   where
     by_case : (b : Bool) → (c == n) ≡ b → P (if b then Some m else None)
@@ -77,7 +91,7 @@ still_folds n c m log word reply f steady same = only_then n c m (λ (o : Option
 pub says_nothing : (d : Dialect) (logs : Logs) (tracks : Tracks) (opened line : ℕ) (word : Word) (connection : Option ℕ) (reply : Reply) → IsClean word reply None
     → EntrySays d logs tracks tracks opened (record { line = line; word = word; connection = connection; reply = reply; status = None; mark = None })
 says_nothing d logs tracks opened line word connection reply clean = record {
-  recorded = tt;
+  at = tt;
   clean = clean;
   folds = λ n. by_number n connection;
   live = λ n h l. l;
@@ -105,7 +119,7 @@ pub says_still : (d : Dialect) (logs left : Logs) (tracks : Tracks) (opened line
     → ((k : Stack) → after_word word reply k ≡ k) → IsClean word reply (Some seat.status) → seat.number < opened
     → EntrySays d logs tracks tracks opened (record { line = line; word = word; connection = Some seat.number; reply = reply; status = Some seat.status; mark = Some seat.mark })
 says_still d logs left tracks opened line word reply seat tracked is steady clean low = record {
-  recorded = track_recorded d (logs seat.number) (left seat.number) (tracks seat.number) seat.status seat.mark (tracked seat.number) is.status is.mark;
+  at = record { left = left seat.number; tracked = tracked seat.number; status = is.status; mark_is = is.mark };
   clean = clean;
   folds = λ n. still_folds n seat.number seat.mark (logs n) word reply (folded (tracks n)) steady (λ e. sym is.mark ∙ ap (λ (k : ℕ). length (items_of (tracks k).steps)) e);
   live = λ n h l. l;

@@ -11,7 +11,7 @@ use Rattle.conn_script.specs.declared.command.Script.{Script}
 use Rattle.conn_reading.specs.Answered.{Logs, answered}
 use Rattle.conn_reading.specs.Folds.{FoldPremises, SetsInOpen}
 use Rattle.conn_reading.specs.Histories.{items_of}
-use Rattle.conn_reading.specs.Sessions.{IsMarked, EachMarked, IsRecorded, EachRecorded, EachVerdict, EachStandsOver, EachClean, Folded, unfolded, is_opened, fold_entries, EntryPremises}
+use Rattle.conn_reading.specs.Sessions.{IsMarked, EachMarked, IsRecorded, EachRecorded, EachVerdict, EachStandsOver, EachClean, Folded, unfolded, is_opened, fold_entries, EntryPremises, EachNested}
 use Rattle.conn_reading.specs.Verdicts.{Verdict, StandsOver}
 use Rattle.conn_reading.proofs.Following.{verdict_holds, depth_holds}
 use Rattle.conn_reading.proofs.FollowingFold.{kept_is_the_fold}
@@ -74,3 +74,6 @@ session_kept d logs entries n s opened premises =
 pub kept_by_entries : (bytes : List ℕ) (script : Script) (logs : Logs) (entries : List Entry) → script_of bytes ≡ Ok script → answered script logs ≡ Some entries → (n : ℕ) → is_opened n entries ≡ true → EntryPremises script.dialect n (logs n) entries
     → option_map kept (state_of script.dialect (logs n)) ≡ Some (fold_entries n (logs n) entries unfolded).stack.lowest
 kept_by_entries bytes script logs entries parsed is n opened premises = session_kept script.dialect logs entries n (says bytes script logs entries parsed is) opened premises
+
+pub each_nested : (bytes : List ℕ) (script : Script) (logs : Logs) (entries : List Entry) → script_of bytes ≡ Ok script → answered script logs ≡ Some entries → (n : ℕ) → EntryPremises script.dialect n (logs n) entries → EachNested script.dialect n (logs n) entries unfolded
+each_nested bytes script logs entries parsed is n premises = (says bytes script logs entries parsed is).entries_say.nested n premises.none_refused premises.none_in_idle premises.live tt

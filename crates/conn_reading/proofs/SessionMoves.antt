@@ -18,8 +18,8 @@ use Rattle.conn_reading.specs.Seats.{Seat, entry_on, place_of, word_of}
 use Rattle.conn_reading.specs.Sessions.{SendsPlain, CommitsLive, mark_of, after_mark, between, MarkLive}
 use Rattle.conn_reading.proofs.Deeds.{IsCall, reads_call}
 use Rattle.conn_reading.proofs.EachSeat.{held, count, StandsAt, stands_there, at_number, each_at, each_other, each_set, count_at, count-set}
-use Rattle.conn_reading.proofs.SessionKept.{Tracks, SeatIs, SeatOf, Keeps, ProgressKeeps, EntrySays, TakenKeeps, says_nothing}
-use Rattle.conn_reading.proofs.Tracks.{Track, IsTrack, ReadsFront, reads_front, moved, moved_is, moved_count, track_recorded, folded, folded_at, fold-last, live-last, between_is}
+use Rattle.conn_reading.proofs.SessionKept.{Tracks, SeatIs, SeatOf, Keeps, ProgressKeeps, EndsWith, EntrySays, TakenKeeps, says_nothing}
+use Rattle.conn_reading.proofs.Tracks.{Track, IsTrack, ReadsFront, reads_front, moved, moved_is, moved_count, folded, folded_at, fold-last, live-last, between_is}
 
 -- ---- one number of many
 
@@ -157,7 +157,7 @@ module _ (d : Dialect) (logs left : Logs) (tracks : Tracks) (p : Progress) (n at
 
   on_says : (line : ℕ) → EntrySays d logs tracks moved_tracks p.context.opened (entry_on line (word_of act) (reply_as r.value.reply) after)
   on_says line = record {
-    recorded = track_recorded d (logs m) r.left next r.value.status after.mark next_is refl (moved_count t deed f.front.used r ∙ sym count_read);
+    at = subst (EndsWith d (logs m) r.value.status after.mark) (sym (track_same tracks m next)) (record { left = r.left; tracked = next_is; status = refl; mark_is = moved_count t deed f.front.used r ∙ sym count_read });
     clean = call.clean (reply_as r.value.reply) (Some r.value.status);
     folds = moves_each d logs left tracks m r.left next (λ k o x. after_mark (logs k) (word_of act) (reply_as r.value.reply) (folded (tracks k)) o ≡ folded x) after.mark (λ k. refl)
         (move_folds (logs m) r.left t act deed f.front.used r after.mark call all_read count_read);

@@ -1,9 +1,11 @@
 -- The histories along all commands of a session.
-use Rattle.std.proofs.Common.{◌≡◌, ℕ, zero, suc, ◌<◌, ◌≤◌, Bool, true, false, ◌&&◌, ◌||◌, if◌then◌else◌, List, [], ◌∷◌, Option, Some, None, refl, ap, subst, ◌∙◌, arith, inl, inr}
+use Rattle.std.proofs.Common.{◌≡◌, ℕ, zero, suc, ◌<◌, ◌≤◌, Bool, true, false, ◌&&◌, ◌||◌, if◌then◌else◌, List, [], ◌∷◌, Option, Some, None, refl, sym, ap, subst, ◌∙◌, arith, inl, inr}
 use Rattle.std.specs.Prelude.{is_some}
+use Rattle.std.specs.List.{list_any}
 use Rattle.std.specs.Option.{option_map}
 use Rattle.std.proofs.lemmas.Option.{option_and_then_some}
 use Rattle.std.proofs.lemmas.Bool.Decides.{leb_tells}
+use Rattle.conn_model.specs.States.{Idle}
 use Rattle.conn_model.specs.declared.item.Dialect.{Dialect}
 use Rattle.conn_model.specs.declared.item.Item.{Item}
 use Rattle.conn_report.specs.declared.entry.Entry.{Entry}
@@ -12,11 +14,12 @@ use Rattle.conn_script.specs.declared.command.Act.TheVariants as acts
 use Rattle.conn_script.specs.declared.command.Command.{Command}
 use Rattle.conn_script.specs.declared.command.Script.{Script}
 use Rattle.conn_reading.specs.Answered.{Logs, Progress, Taken, Run, taken_get, taken_put, reads, reads_all, with_entry, is_nil, all_read, whole, started, answered}
-use Rattle.conn_reading.specs.Folds.{alone, AllKeepLive}
+use Rattle.conn_reading.specs.Folds.{alone, AllKeepLive, refuses_transaction, SetsInOpen}
 use Rattle.conn_reading.specs.Histories.{Begin, Commit, Rollback, Batch}
 use Rattle.conn_reading.specs.Seats.{place_of}
-use Rattle.conn_reading.specs.Sessions.{SendsPlain, AllPlain, EachRecorded, EachClean, mark_of, is_opened, fold_entries, EntriesLive}
+use Rattle.conn_reading.specs.Sessions.{SendsPlain, AllPlain, EachRecorded, EachClean, Folded, mark_of, is_opened, fold_entries, EntriesLive, MarkNested, EachNested}
 use Rattle.conn_reading.proofs.Deeds.{batch_call, begin_call, commit_call, rollback_call}
+use Rattle.conn_reading.proofs.SessionNests.{at_recorded, at_nested}
 use Rattle.conn_reading.proofs.SessionKept.{Tracks, ProgressKeeps, TakenKeeps}
 use Rattle.conn_reading.proofs.SessionMoves.{on_keeps_all}
 use Rattle.conn_reading.proofs.SessionSlots.{get_keeps, put_keeps}
@@ -39,6 +42,8 @@ pub record EntriesSay (d : Dialect) (logs : Logs) (before after : Tracks) (opene
   pub clean : EachClean entries
   pub folds : (n : ℕ) → fold_entries n (logs n) entries (folded (before n)) ≡ folded (after n)
   pub live : (n : ℕ) → EntriesLive n (logs n) entries (folded (before n)) → AllKeepLive (before n).steps (alone []) → AllKeepLive (after n).steps (alone [])
+  pub nested : (n : ℕ) → list_any refuses_transaction (logs n) ≡ false → SetsInOpen d (Idle []) (logs n) → EntriesLive n (logs n) entries (folded (before n)) → AllKeepLive (before n).steps (alone [])
+      → EachNested d n (logs n) entries (folded (before n))
   pub opened_before : (n : ℕ) → is_opened n entries ≡ true → n < opened
 
 record RunKeeps (d : Dialect) (logs : Logs) (before : Tracks) (opened : ℕ) (run : Run) : Type 0 where
@@ -54,10 +59,16 @@ first_keeps d logs before opened t rest first more = record {
   progress = more.progress;
   grows = omega (arith, first.grows, more.grows);
   entries = record {
-    recorded = (first.entry.recorded, more.entries.recorded);
+    recorded = (at_recorded d logs first.tracks t.entry.connection t.entry.status t.entry.mark first.entry.at, more.entries.recorded);
     clean = (first.entry.clean, more.entries.clean);
     folds = λ n. ap (fold_entries n (logs n) rest.entries) (first.entry.folds n) ∙ more.entries.folds n;
     live = λ n l h. more.entries.live n (subst (EntriesLive n (logs n) rest.entries) (first.entry.folds n) l.1) (first.entry.live n l.0 h);
+    nested = λ n none opens l h.
+        let here : AllKeepLive (first.tracks n).steps (alone []) = first.entry.live n l.0 h in
+        subst (λ (f : Folded). MarkNested d (logs n) t.entry.status (mark_of n t.entry.connection t.entry.mark) f.stack × EachNested d n (logs n) rest.entries f) (sym (first.entry.folds n)) (
+          at_nested d logs first.tracks n t.entry.connection t.entry.status t.entry.mark first.entry.at none opens here,
+          more.entries.nested n none opens (subst (EntriesLive n (logs n) rest.entries) (first.entry.folds n) l.1) here,
+        );
     opened_before = λ n is. by_entry n (is_some (mark_of n t.entry.connection t.entry.mark)) refl is;
   };
 }
@@ -74,7 +85,7 @@ run_keeps d logs left tracks p [] run plain dialect h is =
       tracks = tracks;
       progress = h;
       grows = omega arith;
-      entries = record { recorded = tt; clean = tt; folds = λ n. refl; live = λ n l g. g; opened_before = λ n o. absurd (cc) };
+      entries = record { recorded = tt; clean = tt; folds = λ n. refl; live = λ n l g. g; nested = λ n none opens l g. tt; opened_before = λ n o. absurd (cc) };
     })
 run_keeps d logs left tracks p (c ∷ cs) run plain dialect h is =
     option_and_then_some (λ (t : Taken). option_map (with_entry t.entry) (reads_all t.progress t.left cs)) (reads p left c.line c.act) run is (λ t one more.

@@ -10,9 +10,9 @@ use Rattle.conn_manager.specs.Manages.{Done}
 use Rattle.conn_manager.specs.Statuses.{Status, no_depth}
 use Rattle.conn_reading.specs.Calls.{same_call}
 use Rattle.conn_reading.specs.Folds.{Stack, alone, after_items, kind_of, after_step, fold_of, KeepsLive, AllKeepLive}
-use Rattle.conn_reading.specs.Histories.{Deed, IsDeed, process_of, Step, Follow, items_of}
+use Rattle.conn_reading.specs.Histories.{Deed, IsDeed, process_of, Step, Follow, items_of, IsHistory}
 use Rattle.conn_reading.specs.Reading.{Read, read, heard_of, ReadsItems}
-use Rattle.conn_reading.specs.Sessions.{IsRecorded, Folded, between}
+use Rattle.conn_reading.specs.Sessions.{Folded, between}
 use Rattle.conn_reading.proofs.Seats.{taken}
 
 -- ---- what a process reads
@@ -100,13 +100,13 @@ moved_is d deed log left t r front is h =
 pub moved_count : (t : Track) (deed : Deed) (used : List Item) (r : Read Done) → length (items_of (moved t deed used r).steps) ≡ length (items_of t.steps) + length used
 moved_count t deed used r = ap length (items-last t.steps (record { deed = deed; items = used; answer = r.value })) ∙ length-append (items_of t.steps) used
 
--- the log up to what was read is that of a history
-pub track_recorded : (d : Dialect) (log left : List Item) (t : Track) (S : Status) (mark : ℕ) → IsTrack d log left t → t.status ≡ S → length (items_of t.steps) ≡ mark → IsRecorded d S (take mark log)
-track_recorded d log left t S mark h same count = record {
-  steps = t.steps;
-  is_log = ap (λ (l : List Item). take mark l) h.all ∙ ap (λ (n : ℕ). take n (items_of t.steps ++ left)) (sym count) ∙ taken (items_of t.steps) left;
-  is_history = record { state = t.state; follows = subst (λ (X : Status). Follow d (Idle []) no_depth t.steps t.state X) same h.follows };
-}
+-- the log up to what was read is that of the calls
+pub track_log : (d : Dialect) (log left : List Item) (t : Track) (mark : ℕ) → IsTrack d log left t → length (items_of t.steps) ≡ mark → take mark log ≡ items_of t.steps
+track_log d log left t mark h count = ap (λ (l : List Item). take mark l) h.all ∙ ap (λ (n : ℕ). take n (items_of t.steps ++ left)) (sym count) ∙ taken (items_of t.steps) left
+
+-- the calls are a history that ends with their status
+pub track_history : (d : Dialect) (log left : List Item) (t : Track) (S : Status) → IsTrack d log left t → t.status ≡ S → IsHistory d t.steps S
+track_history d log left t S h same = record { state = t.state; follows = subst (λ (X : Status). Follow d (Idle []) no_depth t.steps t.state X) same h.follows }
 
 -- ---- its fold
 

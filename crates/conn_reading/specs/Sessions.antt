@@ -15,7 +15,7 @@ use Rattle.conn_script.specs.declared.command.Command.{Command}
 use Rattle.conn_script.specs.declared.command.Word.{Word}
 use Rattle.conn_script.specs.declared.command.Word.TheVariants as words
 use Rattle.conn_reading.specs.Answered.{Logs}
-use Rattle.conn_reading.specs.Folds.{Stack, alone, pushed, merged, dropped, after_items, refuses_transaction, SetsInOpen, IsDoomed}
+use Rattle.conn_reading.specs.Folds.{Stack, alone, pushed, merged, dropped, after_items, refuses_transaction, SetsInOpen, IsDoomed, NestedMeaning}
 use Rattle.conn_reading.specs.Histories.{Step, items_of, IsHistory}
 use Rattle.conn_reading.specs.Verdicts.{is_plain, Verdict, StandsOver}
 
@@ -151,3 +151,18 @@ pub record EntryPremises (d : Dialect) (n : ℕ) (log : List Item) (entries : Li
   pub none_refused : list_any refuses_transaction log ≡ false
   pub none_in_idle : SetsInOpen d (Idle []) log
   pub live : EntriesLive n log entries unfolded
+
+-- ---- the fold after each entry
+
+-- a status that comes with a mark: the server, by its log up to the mark, holds the stack
+abbrev pub MarkNested : Dialect → List Item → Option Status → Option ℕ → Stack → Type 0
+MarkNested d log None mark k = ⊤
+MarkNested d log (Some S) None k = ⊤
+MarkNested d log (Some S) (Some mark) k = NestedMeaning d S (take mark log) k
+
+-- after each entry of connection n its server holds the stack of the fold up to it
+abbrev pub EachNested : Dialect → ℕ → List Item → List Entry → Folded → Type 0
+EachNested d n log [] f = ⊤
+EachNested d n log (e ∷ es) f =
+    let after = after_entry n log e f in
+    MarkNested d log e.status (mark_of n e.connection e.mark) after.stack × EachNested d n log es after

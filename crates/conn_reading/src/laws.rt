@@ -12,7 +12,7 @@ ghost use Rattle.conn_reading.specs.Answered.{Logs, answered};
 ghost use Rattle.conn_reading.specs.Verdicts.{Verdict, StandsOver};
 ghost use Rattle.conn_reading.specs.Folds.{alone, fold_of, FoldPremises, NestedMeaning};
 ghost use Rattle.conn_reading.specs.Histories.{Step, items_of, IsHistory};
-ghost use Rattle.conn_reading.specs.Sessions.{EachRecorded, EachVerdict, EachStandsOver, EachClean, EntryPremises, is_opened, unfolded, fold_entries};
+ghost use Rattle.conn_reading.specs.Sessions.{EachRecorded, EachVerdict, EachStandsOver, EachClean, EntryPremises, EachNested, is_opened, unfolded, fold_entries};
 
 /// After any calls of a new connection its status is borne out by its server's log.
 pub fn status_is_borne_out()
@@ -54,6 +54,13 @@ pub fn depths_stand_over_their_servers()
 /// Each connection that `get` hands out is valid and without a depth.
 pub fn connections_are_handed_out_clean()
     ensures { (bytes : List ℕ) (script : Script) (logs : Logs) (entries : List Entry) → script_of bytes ≡ Ok script → answered script logs ≡ Some entries → EachClean entries }
+{}
+
+/// After each entry its server holds the stack of the fold of its connection's entries up to it, where no text of a
+/// transaction was refused, no savepoint was set in an idle server, and no level in which the transaction was aborted was
+/// kept.
+pub fn servers_hold_the_stacks_of_entries()
+    ensures { (bytes : List ℕ) (script : Script) (logs : Logs) (entries : List Entry) → script_of bytes ≡ Ok script → answered script logs ≡ Some entries → (n : ℕ) → EntryPremises script.dialect n (logs n) entries → EachNested script.dialect n (logs n) entries unfolded }
 {}
 
 /// The writes that a server keeps in the end are the fold of its connection's entries, where no text of a transaction was

@@ -4,7 +4,7 @@ use Rattle.conn_report.specs.declared.entry.Entry.{Entry}
 use Rattle.conn_script.specs.Grammar.{script_of}
 use Rattle.conn_script.specs.declared.command.Script.{Script}
 use Rattle.conn_server.specs.Connected.{Connected}
-use Rattle.conn_reading.proofs.SessionLaws.{each_verdict, each_stands_over, each_clean, kept_by_entries}
+use Rattle.conn_reading.proofs.SessionLaws.{each_verdict, each_stands_over, each_clean, each_nested, kept_by_entries}
 use Rattle.conn_session.specs.Accounts.{logs_of}
 use Rattle.conn_session.specs.Commands.{IsAnswered, AreBorneOut, IsParsed}
 
@@ -15,6 +15,7 @@ are_borne_out script k entries parsed is =
       verdicts = each_verdict parsed.bytes script logs entries parsed.parses is.entries_are;
       depths = each_stands_over parsed.bytes script logs entries parsed.parses is.entries_are;
       clean = each_clean parsed.bytes script logs entries parsed.parses is.entries_are;
+      nested = each_nested parsed.bytes script logs entries parsed.parses is.entries_are;
       folds = kept_by_entries parsed.bytes script logs entries parsed.parses is.entries_are;
     }
 

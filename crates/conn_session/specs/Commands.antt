@@ -5,7 +5,7 @@ use Rattle.std.specs.declared.string.String.{String}
 use Rattle.std.specs.declared.alloc.Global.{Global}
 use Rattle.conn_model.specs.States.{state_of, kept}
 use Rattle.conn_reading.specs.Answered.{answered, servers_opened}
-use Rattle.conn_reading.specs.Sessions.{EachVerdict, EachStandsOver, EachClean, EntryPremises, is_opened, fold_entries, unfolded}
+use Rattle.conn_reading.specs.Sessions.{EachVerdict, EachStandsOver, EachClean, EntryPremises, EachNested, is_opened, fold_entries, unfolded}
 use Rattle.conn_report.specs.declared.entry.Entry.{Entry}
 use Rattle.conn_report.specs.declared.entry.Transcript.{Transcript}
 use Rattle.conn_report.specs.Report.{report}
@@ -23,11 +23,13 @@ pub record IsAnswered (script : Script) (k : Connected) (entries : List Entry) :
   pub opened : servers_opened script (logs_of k.returned) ≡ Some k.opened
 
 -- the logs of the servers that are back bear the entries out: each status up to its mark, each depth over its server, no depth
--- where `get` hands out; and a server kept the fold of its connection's entries, under the premises of the fold
+-- where `get` hands out; under the premises of the fold a server held, after each entry of its connection, the stack of the
+-- fold up to it, and it kept the fold of all of them
 pub record AreBorneOut (script : Script) (k : Connected) (entries : List Entry) : Type 0 where
   pub verdicts : EachVerdict script.dialect (logs_of k.returned) entries
   pub depths : EachStandsOver script.dialect (logs_of k.returned) entries
   pub clean : EachClean entries
+  pub nested : (n : ℕ) → EntryPremises script.dialect n (logs_of k.returned n) entries → EachNested script.dialect n (logs_of k.returned n) entries unfolded
   pub folds : (n : ℕ) → is_opened n entries ≡ true → EntryPremises script.dialect n (logs_of k.returned n) entries
       → option_map kept (state_of script.dialect (logs_of k.returned n)) ≡ Some (fold_entries n (logs_of k.returned n) entries unfolded).stack.lowest
 
