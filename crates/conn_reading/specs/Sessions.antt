@@ -122,7 +122,8 @@ after_mark log word reply f (Some mark) = record { mark = mark; stack = after_wo
 abbrev pub after_entry : ℕ → List Item → Entry → Folded → Folded
 after_entry n log e f = after_mark log e.word e.reply f (mark_of n e.connection e.mark)
 
--- Fold: where it stands after the entries of connection n, with this log
+-- Fold: where it stands after the entries of connection n, with this log; its result is the lowest list, since all above it
+-- is dropped where the connection is closed or the script ends
 abbrev pub fold_entries : ℕ → List Item → List Entry → Folded → Folded
 fold_entries n log [] f = f
 fold_entries n log (e ∷ es) f = fold_entries n log es (after_entry n log e f)

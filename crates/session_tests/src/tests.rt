@@ -22,10 +22,10 @@ struct Ended {
     written: Vec<u8>,
 }
 
-/// Runs a script, from a source and into a sink of which these calls fail.
+/// Runs a script under words, which a space parts, from a source and into a sink of which these calls fail.
 fn run_between(
     alloc: Global,
-    word: &str,
+    line: &str,
     script: &[u8],
     failing_reads: &[u64],
     write_takes: usize,
@@ -34,7 +34,9 @@ fn run_between(
     requires { 0 < write_takes }
 {
     let mut words = Vec::new(alloc);
-    words.push(String::from_str(alloc, word)?)?;
+    for word in line.split(' ') {
+        words.push(String::from_str(alloc, word)?)?;
+    }
     let mut source = BytesSource::new(alloc, script, 4096, failing_reads)?;
     let mut sink = BytesSink::new(alloc, 4096, write_takes, failing_writes)?;
     let mut connector = ScriptedConnector::new(alloc);
@@ -46,6 +48,13 @@ fn run_between(
 /// Runs a script where nothing fails.
 fn run_whole(alloc: Global, script: &[u8]) -> Result<Ended, AllocError> {
     run_between(alloc, "run", script, &[], 4096, &[])
+}
+
+/// A script over one slot that refuses nothing.
+fn plain(alloc: Global, commands: &[u8]) -> Result<Vec<u8>, AllocError> {
+    let mut script = Vec::from_slice(alloc, b"session sqlite 1 nop nocheck\n")?;
+    script.extend_from_slice(commands)?;
+    Ok(script)
 }
 
 /// The run with the name that comes again, with one refusal.
@@ -68,10 +77,43 @@ fn a_write_is_reported_and_kept(rt: HostRuntime) -> Result<(), Fail> {
 }
 
 #[test]
-fn another_word_reads_and_writes_nothing(rt: HostRuntime) -> Result<(), Fail> {
-    let ended = run_between(rt.alloc(), "walk", ONE_WRITE, &[], 4096, &[])?;
-    assert_eq!(rt; ended.status, 5);
-    assert_eq!(rt; ended.written.len(), 0);
+fn an_empty_session_is_done(rt: HostRuntime) -> Result<(), Fail> {
+    let ended = run_whole(rt.alloc(), b"session sqlite 1 nop nocheck\n")?;
+    assert_eq!(rt; ended.status, 0);
+    assert_eq!(rt; ended.written.as_slice(), b"done 0 0\n".as_slice());
+    Ok(())
+}
+
+#[test]
+fn other_words_read_and_write_nothing(rt: HostRuntime) -> Result<(), Fail> {
+    for words in ["walk", "run now", "", "run ", "RUN"] {
+        let ended = run_between(rt.alloc(), words, ONE_WRITE, &[], 4096, &[])?;
+        assert_eq!(rt; ended.status, 5);
+        assert_eq!(rt; ended.written.len(), 0);
+    }
+    Ok(())
+}
+
+#[test]
+fn bytes_that_are_no_script_run_nothing(rt: HostRuntime) -> Result<(), Fail> {
+    for script in [
+        b"".as_slice(),
+        b"\n",
+        b"session sqlite 1 nop nocheck",
+        b"session sqlite 1 nop nocheck\nget\nbatch 0 INSERT \xff\n",
+        b"session sqlite 1 nop nocheck\nget",
+        b"session sqlite 1 nop nocheck\nget\nput  0\n",
+        b"session sqlite 1 nop nocheck\nget\nput 00\n",
+        b"session sqlite 1 nop nocheck\nget\nput 4294967296\n",
+        b"session sqlite 1 nop nocheck\ngot\n",
+        b"session sqlite 1 nop nocheck\nget\n\nput 0\n",
+        b"session sqlite 01 nop nocheck\n",
+        b"get\nsession sqlite 1 nop nocheck\n",
+    ] {
+        let ended = run_whole(rt.alloc(), script)?;
+        assert_eq!(rt; ended.status, 1);
+        assert_eq!(rt; ended.written.as_slice(), b"bad line 0\n".as_slice());
+    }
     Ok(())
 }
 
@@ -130,13 +172,73 @@ fn one_refusal_anywhere_is_reported(rt: HostRuntime) -> Result<(), Fail> {
 
 #[test]
 fn a_script_may_be_cut_where_a_line_ends(rt: HostRuntime) -> Result<(), Fail> {
-    let mut script = Vec::from_slice(rt.alloc(), b"session sqlite 1 nop nocheck\n")?;
-    script.extend_from_slice(NAME_AGAIN)?;
+    let script = plain(rt.alloc(), NAME_AGAIN)?;
     let mut cut = Vec::new(rt.alloc());
     for byte in script.iter() {
         cut.push(*byte)?;
         let ended = run_whole(rt.alloc(), &cut)?;
         assert_eq!(rt; ended.status, if *byte == b'\n' { 0 } else { 1 });
     }
+    Ok(())
+}
+
+#[test]
+fn what_a_savepoint_rolled_back_is_not_kept(rt: HostRuntime) -> Result<(), Fail> {
+    let script = plain(rt.alloc(), NAME_AGAIN)?;
+    let ended = run_whole(rt.alloc(), &script)?;
+    assert_eq!(rt; ended.status, 0);
+    assert!(rt;
+        ended.written.as_slice().ends_with(
+            b"\nserver 0 2\nwrite INSERT a\nwrite INSERT c\ndone 11 1\n"
+        )
+    );
+    Ok(())
+}
+
+#[test]
+fn a_rollback_at_depth_three_drops_the_writes_of_that_level(rt: HostRuntime) -> Result<(), Fail> {
+    let script = plain(
+        rt.alloc(),
+        b"get\nbegin 0\nbatch 0 INSERT a\nbegin 0\nbatch 0 INSERT b\nbegin 0\nbatch 0 INSERT c\nrollback 0\nbatch 0 INSERT d\ncommit 0\ncommit 0\nput 0\n",
+    )?;
+    let ended = run_whole(rt.alloc(), &script)?;
+    assert_eq!(rt; ended.status, 0);
+    assert!(rt;
+        ended.written.as_slice().ends_with(
+            b"\nserver 0 3\nwrite INSERT a\nwrite INSERT b\nwrite INSERT d\ndone 12 1\n"
+        )
+    );
+    Ok(())
+}
+
+#[test]
+fn writes_after_the_server_ended_the_transaction_are_kept(rt: HostRuntime) -> Result<(), Fail> {
+    let ended = run_whole(
+        rt.alloc(),
+        b"session sqlite 1 nop nocheck\nrefuse 0 3 5 - end\nget\nbegin 0\nbatch 0 INSERT a\nbatch 0 INSERT b\nbatch 0 INSERT c\n",
+    )?;
+    assert_eq!(rt; ended.status, 0);
+    assert!(rt;
+        ended
+            .written
+            .as_slice()
+            .ends_with(b"\nserver 0 1\nwrite INSERT c\ndone 5 1\n")
+    );
+    Ok(())
+}
+
+#[test]
+fn what_a_closed_connection_had_open_is_not_kept(rt: HostRuntime) -> Result<(), Fail> {
+    let script = plain(
+        rt.alloc(),
+        b"get\nbatch 0 INSERT a\nbegin 0\nbatch 0 INSERT b\nput 0\nget\nbatch 1 INSERT c\n",
+    )?;
+    let ended = run_whole(rt.alloc(), &script)?;
+    assert_eq!(rt; ended.status, 0);
+    assert!(rt;
+        ended.written.as_slice().ends_with(
+            b"\nserver 0 1\nwrite INSERT a\nserver 1 1\nwrite INSERT c\ndone 7 2\n"
+        )
+    );
     Ok(())
 }
