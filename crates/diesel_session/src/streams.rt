@@ -1,4 +1,6 @@
 //! Standard input and output as a source and a sink. They tell no bytes, and count their faults.
+ghost use Rattle.std.specs.Prelude.{◌≡◌};
+
 use conn_session::{Failed, Sink, Source};
 use std::io::{Read, Write};
 
@@ -10,7 +12,11 @@ pub struct Input<R> {
 }
 
 impl<R: Read> Input<R> {
-    pub fn new(reader: R) -> Input<R> {
+    /// The reader, with no fault yet.
+    pub fn new(reader: R) -> Input<R>
+        ensures reader { result.reader ≡ reader }
+        ensures faults { result.faults ≡ 0 }
+    {
         Input { reader, faults: 0 }
     }
 }
@@ -41,7 +47,11 @@ pub struct Output<W> {
 }
 
 impl<W: Write> Output<W> {
-    pub fn new(writer: W) -> Output<W> {
+    /// The writer, with no fault yet.
+    pub fn new(writer: W) -> Output<W>
+        ensures writer { result.writer ≡ writer }
+        ensures faults { result.faults ≡ 0 }
+    {
         Output { writer, faults: 0 }
     }
 }
