@@ -3,8 +3,9 @@ use Rattle.std.proofs.Common.{◌≡◌, ℕ, suc, ◌+◌, ◌<◌, Bool, true,
 use Rattle.std.proofs.lemmas.Bool.Decides.{nat_tests}
 use Rattle.conn_result.specs.declared.error.Error.TheVariants.{DepthExhausted}
 use Rattle.conn_model.specs.Classes.{class, begins, is_begin, is_built, same_text}
-use Rattle.conn_model.specs.Fits.{fits, fits-savepoint, fits-savepoint_anew}
-use Rattle.conn_model.specs.Names.{class-savepoint}
+use Rattle.conn_model.specs.Fits.{fits}
+use Rattle.conn_model.proofs.Fits.{fits-savepoint, fits-savepoint_anew}
+use Rattle.conn_model.proofs.Names.{class-begin, class-savepoint}
 use Rattle.conn_model.specs.Process.{Stop}
 use Rattle.conn_model.specs.States.{State, Idle, Open, Lost, Transaction, Mark, told_of, accepts, idle_accepts, open_accepts, aborted_accepts, other_marks}
 use Rattle.conn_model.specs.declared.class.Class.TheVariants as of
@@ -98,10 +99,6 @@ savepoint_safe d t s p high h =
     (λ x S1 mid q g refused broke. g)
 
 -- ---- the calls
-
-pub class-begin : class (codes "BEGIN") ≡ of.Begin
-unfolding class begins is_begin is_built same_text
-class-begin = refl
 
 pub begin_safe : (d : Dialect) (S : Status) (s : State) (p : Part) → Holds d S s p → Safe d left_status s p (begin_process d S)
 begin_safe d InError s p h = h

@@ -6,7 +6,7 @@ use Rattle.conn_result.specs.declared.error.Error.{Error}
 use Rattle.conn_result.specs.declared.error.Error.TheVariants.{DatabaseError}
 use Rattle.conn_model.specs.Classes.{class, begins, is_begin, is_built, same_text}
 use Rattle.conn_model.specs.Fits.{fits}
-use Rattle.conn_model.specs.Names.{class-release, class-rollback_to}
+use Rattle.conn_model.proofs.Names.{class-commit, class-rollback, class-release, class-rollback_to}
 use Rattle.conn_model.specs.Process.{Stop}
 use Rattle.conn_model.specs.States.{State, Idle, Open, Lost, Transaction, Mark, told_of, accepts, idle_accepts, open_accepts, aborted_accepts, find_mark}
 use Rattle.conn_model.specs.declared.class.Class.{Class}
@@ -132,14 +132,6 @@ ending_class keeps several k = if several then inner_class keeps k else whole_cl
 
 abbrev pub ending_text : Bool → ℕ → List ℕ
 ending_text keeps depth = if keeps then commit_text depth else rollback_text depth
-
-class-commit : class (codes "COMMIT") ≡ of.Commit
-unfolding class begins is_begin is_built same_text
-class-commit = refl
-
-class-rollback : class (codes "ROLLBACK") ≡ of.Rollback
-unfolding class begins is_begin is_built same_text
-class-rollback = refl
 
 pub ending_is : (keeps : Bool) (depth : ℕ) (several : Bool) → nat_lt 1 depth ≡ several → depth < 4294967296 → class (ending_text keeps depth) ≡ ending_class keeps several (depth - 1)
 ending_is true depth true is high = rw is (class-release (depth - 1) (grind (arith, nat_tests)) (omega arith))

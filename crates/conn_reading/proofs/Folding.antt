@@ -5,7 +5,7 @@ use Rattle.std.specs.List.{list_any}
 use Rattle.std.proofs.lemmas.Bool.Decides.{nat_tests}
 use Rattle.conn_result.specs.declared.error.Error.TheVariants.{DepthExhausted}
 use Rattle.conn_model.specs.Classes.{class}
-use Rattle.conn_model.specs.Names.{class-savepoint}
+use Rattle.conn_model.proofs.Names.{class-begin, class-savepoint}
 use Rattle.conn_model.specs.Process.{Process, Stop, refusal_of}
 use Rattle.conn_model.specs.States.{State, Idle, Open, Lost, step_by, told_of, accepts}
 use Rattle.conn_model.specs.declared.class.Class.{Class}
@@ -23,7 +23,6 @@ use Rattle.conn_manager.specs.declared.status.TransactionManagerStatus.TheVarian
 use Rattle.conn_reading.specs.Folds.{Level, Stack, Nested, HasDepth, pushed, merged, dropped, IsDoomed, is_write_class, is_transaction_class, after_item, after_items, Begins, Commits, Rolls, after_reply, after_block, refuses_transaction, sets, SetsInOpen}
 use Rattle.conn_reading.specs.Verdicts.{Part, Holds, is_refused_by, runs_class}
 use Rattle.conn_reading.proofs.ItemsRead.{Reads}
-use Rattle.conn_reading.proofs.Beginning.{class-begin}
 use Rattle.conn_reading.proofs.Ending.{ending_lowers, ending_is, ending_class}
 use Rattle.conn_reading.proofs.Nesting.{begin_nests, savepoint_nests, release_nests, return_nests, commit_nests, rollback_nests}
 

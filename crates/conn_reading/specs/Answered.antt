@@ -38,6 +38,7 @@ pub record Taken : Type 0 where
   pub progress : Progress
   pub left : Logs
 
+-- what one command took
 abbrev pub taken : Entry → Progress → Logs → Taken
 taken entry progress left = record { entry = entry; progress = progress; left = left }
 
@@ -129,9 +130,11 @@ pub record Run : Type 0 where
   pub progress : Progress
   pub left : Logs
 
+-- one entry in front
 abbrev pub with_entry : Entry → Run → Run
 with_entry entry run = record run { entries = entry ∷ run.entries }
 
+-- the commands in order, as far as each can be read
 abbrev pub reads_all : Progress → Logs → List Command → Option Run
 reads_all p logs [] = Some (record { entries = []; progress = p; left = logs })
 reads_all p logs (command ∷ commands) = option_and_then (λ (t : Taken). option_map (with_entry t.entry) (reads_all t.progress t.left commands)) (reads p logs command.line command.act)
@@ -141,10 +144,12 @@ abbrev pub is_nil : List Item → Bool
 is_nil [] = true
 is_nil (item ∷ items) = false
 
+-- each of them is read to its end
 abbrev pub all_read : ℕ → Logs → Bool
 all_read zero logs = true
 all_read (suc n) logs = is_nil (logs n) && all_read n logs
 
+-- the entries, where nothing of the logs of opened servers is left
 abbrev pub whole : Run → Option (List Entry)
 whole run = if all_read run.progress.context.opened run.left then Some run.entries else None
 

@@ -29,6 +29,7 @@ pub record Context : Type 0 where
 abbrev pub at_first : Context
 at_first = record { slots = None ∷ []; out = []; opened = 0 }
 
+-- an entry of these
 abbrev pub make_entry : ℕ → Word → Option ℕ → Reply → Option Status → Option ℕ → Entry
 make_entry line word connection reply status mark = record { line = line; word = word; connection = connection; reply = reply; status = status; mark = mark }
 
@@ -50,6 +51,7 @@ abbrev pub is_kept : Status → Bool
 is_kept (Valid v) = is_none v.in_transaction
 is_kept InError = false
 
+-- the reply to a connection that is given back
 abbrev pub put_reply : Status → Reply
 put_reply status = if is_kept status then replies.Kept else replies.Closed
 

@@ -138,6 +138,7 @@ abbrev pub MarkLive : List Item → Word → Reply → Folded → Option ℕ →
 MarkLive log word reply f None = ⊤
 MarkLive log word reply f (Some mark) = CommitsLive word reply (between log f mark)
 
+-- of an entry of any connection
 abbrev pub EntryLive : ℕ → List Item → Entry → Folded → Type 0
 EntryLive n log e f = MarkLive log e.word e.reply f (mark_of n e.connection e.mark)
 

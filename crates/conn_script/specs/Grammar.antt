@@ -68,11 +68,12 @@ abbrev pub next : ℕ → Option Script → List ℕ → Option Script
 next n None line = guard (bytes_eq line (codes "session sqlite 1 nop nocheck")) empty_script
 next n (Some script) line = if is_utf8 line then with_words n script (split_at 32 line) else None
 
--- the parts between line feeds; the last one is what follows the last line feed
+-- a byte in front of the first line
 abbrev pub with_first : ℕ → List (List ℕ) → List (List ℕ)
 with_first b [] = (b ∷ []) ∷ []
 with_first b (line ∷ lines) = (b ∷ line) ∷ lines
 
+-- the parts between line feeds; the last one is what follows the last line feed
 abbrev pub lines_of : List ℕ → List (List ℕ)
 lines_of [] = [] ∷ []
 lines_of (b ∷ bs) = if b == 10 then [] ∷ lines_of bs else with_first b (lines_of bs)
@@ -83,6 +84,7 @@ finished n (Some script) [] = Ok script
 finished n (Some script) (b ∷ bs) = Err n
 finished n None last = Err n
 
+-- the line is bad where there is no script after it
 abbrev pub or_bad : ℕ → Option Script → (Script → Result Script ℕ) → Result Script ℕ
 or_bad n None f = Err n
 or_bad n (Some script) f = f script
@@ -102,6 +104,7 @@ abbrev pub Fails : SessionError → Result Script ℕ → Type 0
 Fails (BadScript n) read = read ≡ Err n
 Fails OutOfMemory read = Unit {0}
 
+-- the script is the one that was read; a fault is as `Fails` says
 abbrev pub Gives : Result Script SessionError → Result Script ℕ → Type 0
 Gives (Ok script) read = read ≡ Ok script
 Gives (Err e) read = Fails e read

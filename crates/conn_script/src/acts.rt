@@ -12,20 +12,14 @@ use std::alloc::{AllocError, Global};
 fn word_of(text: &str) -> Option<Word>
     ensures { result ≡ word_named text.now }
 {
-    if text == "get" {
-        Some(Word::Get)
-    } else if text == "put" {
-        Some(Word::Put)
-    } else if text == "batch" {
-        Some(Word::Batch)
-    } else if text == "begin" {
-        Some(Word::Begin)
-    } else if text == "commit" {
-        Some(Word::Commit)
-    } else if text == "rollback" {
-        Some(Word::Rollback)
-    } else {
-        None
+    match text {
+        "get" => Some(Word::Get),
+        "put" => Some(Word::Put),
+        "batch" => Some(Word::Batch),
+        "begin" => Some(Word::Begin),
+        "commit" => Some(Word::Commit),
+        "rollback" => Some(Word::Rollback),
+        _ => None,
     }
 }
 

@@ -57,7 +57,8 @@ pub struct Script {
     pub commands: Commands,
 }
 
-/// Why a session was not run. Lines count from 1; 0 stands for too many bytes.
+/// Why a session gave no transcript. Lines count from 1; 0 stands for too many bytes, and for every bad line of a session that
+/// doesn't tell it.
 #[derive(Clone, Copy, Debug, PartialEq, Eq)]
 pub enum SessionError {
     BadScript { line: u32 },

@@ -100,15 +100,6 @@ module _ {S : Type 0} (seen : S → Seen) where
       (e ∙ ap (λ (x : List (Option (ServerConnection S))). x ++ None ∷ []) m) f (ap (λ (x : Connected). x.opened) back) (ap (λ (x : Connected). x.returned) back)
       (g ∙ ap (λ (b : Bool). entry_on line words.Put (cond b replies.Kept replies.Closed) (seat_of seen c)) closed)
 
-  -- a call that gave up before it changed anything
-  pub gave_up : {E : Type 0} (slots slots' : List (Option (ServerConnection S))) (out out' : List (ServerConnection S)) (k k' : Connected) (line : ℕ) (act : Act) (e : E)
-      → held_in seen slots' ≡ held_in seen slots → map (held_of seen) out' ≡ map (held_of seen) out → k'.opened ≡ k.opened → k'.returned ≡ k.returned
-      → Steps (world seen slots out k) (world seen slots' out' k') line act (Err e)
-  gave_up slots slots' out out' k k' line act e s f o r = record {
-    accounts = λ a. accounts_at k.opened k'.opened (held_in seen slots) (held_in seen slots') (map (held_of seen) out) (map (held_of seen) out') k.returned k'.returned o s f r a;
-    plays = tt;
-  }
-
   pub get_none : {E : Type 0} (slots : List (Option (ServerConnection S))) (out : List (ServerConnection S)) (k : Connected) (line : ℕ) (entry : Entry)
       → slots ≡ [] → entry ≡ entry_without line words.Get None replies.NoneFree
       → Steps {E = E} (world seen slots out k) (world seen slots out k) line Get (Ok entry)

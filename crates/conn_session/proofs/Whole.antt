@@ -1,5 +1,5 @@
 -- From the bytes of a source to the answer, and back.
-use Rattle.std.proofs.Common.{◌≡◌, ℕ, ◌<◌, List, [], ◌∷◌, length, take, map, Option, Some, None, Result, Ok, Err, refl, sym, ap, ◌∙◌, arith, inl, inr, Bool, true, get_or}
+use Rattle.std.proofs.Common.{◌≡◌, ℕ, ◌<◌, List, [], ◌∷◌, length, take, map, Option, Some, None, Result, Ok, Err, sym, ap, ◌∙◌, arith, inl, inr, Bool, true, get_or}
 use Rattle.std.specs.Str.{bytes_eq}
 use Rattle.std.proofs.lemmas.Slice.Eq.{bytes_eq-Decides}
 use Rattle.std.specs.Prelude.{IfSome, MatchResult}
@@ -43,7 +43,3 @@ status_of honest tells (Err n) old new status text h = h.0
 pub is_complete : (honest tells : Bool) (left : Option (List ℕ)) (old new : Connected) (status : ℕ) (text : List ℕ) → AnswersLeft honest tells left old new status text → IsComplete left status
 is_complete honest tells None old new status text h = tt
 is_complete honest tells (Some bytes) old new status text h = inr (status_of honest tells (script_of bytes) old new status text h)
-
-pub for_memory : (left : Option (List ℕ)) → IsComplete left 4
-for_memory None = tt
-for_memory (Some bytes) = inl refl

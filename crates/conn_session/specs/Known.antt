@@ -27,6 +27,7 @@ pub record Has (d : Dialect) (logs : Logs) (s : Seen) : Type 0 where
   pub dialect : s.dialect ≡ d
   pub log : s.log ≡ Some (logs s.number)
 
+-- so has each of them
 abbrev pub Have : Dialect → Logs → List Seen → Type 0
 Have d logs [] = ⊤
 Have d logs (s ∷ others) = Has d logs s × Have d logs others

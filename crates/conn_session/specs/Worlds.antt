@@ -24,6 +24,7 @@ pub record World : Type 0 where
   pub attempts : ℕ
   pub plan : List PlanLine
 
+-- each server that was opened is in one place
 abbrev pub IsAccounted : World → Type 0
 IsAccounted w = Accounts w.context.opened w.slots w.out w.returned
 
@@ -52,15 +53,19 @@ abbrev pub state_told : Seen → State
 state_told s = unwrap_or (state_seen s) (Idle [])
 
 module _ {S : Type 0} (seen : S → Seen) where
+  -- a connection, as a reader of logs has it
   abbrev pub seat_of : ServerConnection S → Seat
   seat_of c = record { number = (seen c.server).number; status = c.status; mark = (seen c.server).sent; state = state_told (seen c.server) }
 
+  -- its server
   abbrev pub held_of : ServerConnection S → Seen
   held_of c = seen c.server
 
+  -- the servers in slots
   abbrev pub held_in : List (Option (ServerConnection S)) → List Seen
   held_in slots = filter_map (option_map held_of) slots
 
+  -- what slots, connections that are out and a connector make
   abbrev pub world : List (Option (ServerConnection S)) → List (ServerConnection S) → Connected → World
   world slots out k = record {
     context = record { slots = map (option_map seat_of) slots; out = map seat_of out; opened = k.opened };
@@ -71,6 +76,7 @@ module _ {S : Type 0} (seen : S → Seen) where
     plan = k.armed;
   }
 
+  -- the same of a session
   abbrev pub world_of : Session S → Connected → World
   world_of s k = world s.slots.items s.out.items k
 

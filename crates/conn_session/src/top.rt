@@ -73,6 +73,9 @@ pub fn run_command<I: Source, O: Sink, K: Connector>(
     ensures unwritten { result ≡ 3 → Rose (O.faults sink.old) (O.faults sink.new) }
     ensures prefix { result ≡ 3 → (status : ℕ) × (text : List ℕ) × AnswersLeft K.is_honest K.S.is_honest (I.left source.old) (K.held connector.old) (K.held connector.new) status text × AddsPrefix (O.held sink.old) (O.held sink.new) text }
 
+    // 4: memory was wanting before anything was written.
+    ensures unreported { result ≡ 4 → O.held sink.new ≡ O.held sink.old }
+
     // 5: exactly for other words, and then nothing is done.
     ensures words { (result ≡ 5) ↔ ¬ (IsRun words.now) }
     ensures untouched { result ≡ 5 → (I.left source.new ≡ I.left source.old) × (O.held sink.new ≡ O.held sink.old) × (K.held connector.new ≡ K.held connector.old) }

@@ -78,3 +78,35 @@ fn no_savepoint_is_set_at_the_greatest_depth(rt: HostRuntime) -> Result<(), Fail
     assert_eq!(rt; conn.sent(), 0);
     Ok(())
 }
+
+#[test]
+fn a_transaction_may_begin_by_a_text_of_ones_own(rt: HostRuntime) -> Result<(), Fail> {
+    let mut connector = ScriptedConnector::new(rt.alloc());
+    let mut conn = connect(rt.alloc(), &mut connector)?.ok_or("no server")?;
+    let begun = AnsiTransactionManager::begin_transaction_sql(&mut conn, "BEGIN IMMEDIATE");
+    assert!(rt; begun.is_ok());
+    assert!(rt; matches!(conn.status().transaction_depth(), Ok(Some(1))));
+    let item = conn.server.item(rt.alloc(), 0)?.ok_or("no item")?;
+    assert_eq!(rt; item.text.as_str(), "BEGIN IMMEDIATE");
+    let again = AnsiTransactionManager::begin_transaction_sql(&mut conn, "BEGIN IMMEDIATE");
+    assert!(rt; matches!(again, Err(Error::AlreadyInTransaction)));
+    assert_eq!(rt; conn.sent(), 1);
+    Ok(())
+}
+
+#[test]
+fn a_manager_is_broken_in_a_transaction_that_is_no_test(rt: HostRuntime) -> Result<(), Fail> {
+    let mut connector = ScriptedConnector::new(rt.alloc());
+    let mut conn = connect(rt.alloc(), &mut connector)?.ok_or("no server")?;
+    assert!(rt; !AnsiTransactionManager::is_broken_transaction_manager(&mut conn));
+    assert!(rt; is_answered_ok(Ask::Begin, &mut conn));
+    assert!(rt; AnsiTransactionManager::is_broken_transaction_manager(&mut conn));
+    let mut status = *conn.status();
+    status.set_test_transaction_flag();
+    conn.set_status(status);
+    assert!(rt; !AnsiTransactionManager::is_broken_transaction_manager(&mut conn));
+    status.set_in_error();
+    conn.set_status(status);
+    assert!(rt; AnsiTransactionManager::is_broken_transaction_manager(&mut conn));
+    Ok(())
+}

@@ -165,6 +165,10 @@ fn one_refusal_anywhere_is_reported(rt: HostRuntime) -> Result<(), Fail> {
             let ended = run_whole(rt.alloc(), &script)?;
             assert_eq!(rt; ended.status, 0);
             assert!(rt; ended.written.as_slice().ends_with(b"\ndone 11 1\n"));
+            let report = str::from_utf8(ended.written.as_slice())
+                .ok()
+                .ok_or("no text")?;
+            assert!(rt; report.contains("DatabaseError Unknown 5"));
         }
     }
     Ok(())
