@@ -5,14 +5,13 @@ use Rattle.std.proofs.lemmas.Slice.Eq.{bytes_eq-Decides}
 use Rattle.conn_model.specs.Acts.{Acts}
 use Rattle.conn_model.specs.Process.{Process, Stop, Ask, Sent, Heard, Follows, IsAsked, TellsBy, TellsIf, logged, with_sent, IsTold, refusal_of, plain_heard}
 use Rattle.conn_model.specs.Seen.{Seen}
-use Rattle.conn_model.specs.States.{State, state_of, step, step_by, told_of, state_of-append}
+use Rattle.conn_model.specs.States.{State, state_of, step, step_by, told_of}
 use Rattle.conn_model.specs.declared.item.Answer.{Answer}
 use Rattle.conn_model.specs.declared.item.Call.{Call}
 use Rattle.conn_model.specs.declared.item.Call.TheVariants.{Exec}
 use Rattle.conn_model.specs.declared.item.Dialect.{Dialect}
 use Rattle.conn_model.specs.declared.item.Item.{Item}
-use Rattle.conn_model.specs.declared.item.Refusal.{Refusal}
-use Rattle.conn_model.specs.declared.item.Told.{Told}
+use Rattle.conn_manager.proofs.Kept.{one_step, heard_is}
 use Rattle.conn_reading.specs.Reading.{Read, read, ReadsItems, heard_of}
 use Rattle.conn_reading.proofs.Texts.{AsksTexts}
 
@@ -23,16 +22,6 @@ pub record HasRead {A : Type 0} (d : Dialect) (s : State) (p : Process A) (a : A
   pub is_log : log ≡ Some (items ++ more)
   pub lawful : state_of d (items ++ more) ≡ Some state
   pub reads : ReadsItems d s p more a state
-
--- a lawful log's newest item is a step
-one_step : (d : Dialect) (items more : List Item) (s mid : State) (i : Item) → state_of d items ≡ Some s → Some (items ++ i ∷ []) ≡ Some more → state_of d more ≡ Some mid → step d s i ≡ Some mid
-one_step d items more s mid i is same is_mid =
-    let e : items ++ i ∷ [] ≡ more = cc in
-    let f : state_of d (items ++ i ∷ []) ≡ Some mid = rw e is_mid in
-    ap (option_and_then (λ (s : State). step d s i)) (sym is) ∙ sym (state_of-append d items i) ∙ f
-
-plain_is : (h : Heard) (r : Option Refusal) (t : Told) → h ≡ plain_heard h.refusal h.told → h.refusal ≡ r → h.told ≡ t → h ≡ plain_heard r t
-plain_is h r t e f g = e ∙ ap (λ (x : Option Refusal). plain_heard x h.told) f ∙ ap (plain_heard r) g
 
 -- one text in front is read, and then the rest
 reads_one : {A : Type 0} (d : Dialect) (s mid after : State) (text : List ℕ) (answer : Answer) (next : Heard → Process A) (more : List Item) (a : A) → step_by d s Exec text answer ≡ Some mid
@@ -61,7 +50,7 @@ reads_sent d (Ask call text next) (i ∷ is) a items s asks lawful follows told 
     let here : state_of d (items ++ item ∷ []) ≡ Some tells.state = (let e : items ++ item ∷ [] ≡ tells.items = cc tells.is_log in rw e tells.lawful) in
     let stepped : step d s item ≡ Some tells.state = one_step d items tells.items s tells.state item lawful tells.is_log tells.lawful in
     let rest = reads_sent d (next i.heard) is a (items ++ item ∷ []) tells.state (asks.1 i.heard) here follows.1 (subst (λ (o : Option Item). IsTold d (with_sent (Some items) o) is) asked.0.is told.1) in
-    let heard : i.heard ≡ heard_of d tells.state item = plain_is i.heard (refusal_of asked.0.answer) (told_of d tells.state) asked.1 asked.0.heard tells.tells in
+    let heard : i.heard ≡ heard_of d tells.state item = heard_is i.heard (refusal_of asked.0.answer) (told_of d tells.state) asked.1 asked.0.heard tells.tells in
     let joined : (items ++ item ∷ []) ++ rest.more ≡ items ++ item ∷ rest.more = append_assoc items (item ∷ []) rest.more in
     record {
       more = item ∷ rest.more;

@@ -1,11 +1,11 @@
 -- Histories that meet what the laws ask for.
-use Rattle.std.proofs.Common.{◌≡◌, ℕ, pos, true, false, List, [], ◌∷◌, codes, refl, sym, ◌∙◌, subst, Some, Ok, Err}
+use Rattle.std.proofs.Common.{◌≡◌, ℕ, pos, true, false, List, [], ◌∷◌, codes, refl, Ok, Err}
 use Rattle.std.specs.Fmt.{digits}
 use Rattle.conn_result.specs.declared.error.DatabaseErrorKind.TheVariants.{Unknown}
 use Rattle.conn_result.specs.declared.error.Error.{Error}
 use Rattle.conn_result.specs.declared.error.Error.TheVariants.{DatabaseError, RollbackErrorOnCommit}
 use Rattle.conn_model.specs.Classes.{class, is_begin, is_built, is_write, same_text, begins, number_behind}
-use Rattle.conn_model.specs.States.{State, Idle, Open, Mark, step}
+use Rattle.conn_model.specs.States.{State, Idle, Open, Mark}
 use Rattle.conn_model.specs.declared.item.Answer.{Answer}
 use Rattle.conn_model.specs.declared.item.Answer.TheVariants.{Accepted, Refused}
 use Rattle.conn_model.specs.declared.item.Call.TheVariants.{Exec}
@@ -15,8 +15,9 @@ use Rattle.conn_model.specs.declared.item.Item.{Item}
 use Rattle.conn_manager.specs.Manages.{Done, done, flat}
 use Rattle.conn_manager.specs.Statuses.{Status, no_depth, at_depth}
 use Rattle.conn_manager.specs.declared.status.TransactionManagerStatus.TheVariants.{InError}
-use Rattle.conn_reading.specs.Folds.{alone, fold_of, is_idle, sets, SetsInOpen, FoldPremises}
-use Rattle.conn_reading.specs.Histories.{Deed, Begin, Commit, Rollback, Batch, Step, IsHistory}
+use Rattle.conn_reading.specs.Folds.{alone, fold_of, FoldPremises}
+use Rattle.conn_reading.specs.Histories.{Deed, Begin, Commit, Rollback, Batch, Step, items_of, IsHistory}
+use Rattle.conn_reading.proofs.OnSqlite.{lawful_meets}
 
 abbrev item : List ℕ → Answer → Item
 item text answer = record { call = Exec; text = text; answer = answer }
@@ -104,38 +105,14 @@ nested_follows = record {
   );
 }
 
-sets_at : (s after : State) (i : Item) (is : List Item) → step Sqlite s i ≡ Some after → (sets i ≡ true → is_idle s ≡ false) → SetsInOpen Sqlite after is → SetsInOpen Sqlite s (i ∷ is)
-sets_at s after i is e first rest = (first, λ x f. (let same : after ≡ x = cc (sym e ∙ f) in subst (λ (y : State). SetsInOpen Sqlite y is) same rest))
-
 not_live : false ≡ true → ⊥
 not_live e = cc
-
-abbrev the_commit : List Item
-the_commit = item (codes "COMMIT") Accepted ∷ []
-
-abbrev from_back : List Item
-from_back = item (codes "ROLLBACK TO SAVEPOINT diesel_savepoint_1") Accepted ∷ the_commit
-
-abbrev from_b : List Item
-from_b = item (codes "INSERT b") Accepted ∷ from_back
-
-abbrev from_savepoint : List Item
-from_savepoint = item (codes "SAVEPOINT diesel_savepoint_1") Accepted ∷ from_b
-
-abbrev from_a : List Item
-from_a = item (codes "INSERT a") Accepted ∷ from_savepoint
 
 nested_meets : FoldPremises Sqlite nested
 unfolding class is_begin is_built is_write same_text begins number_behind digits
 nested_meets = record {
   none_refused = refl;
-  none_in_idle =
-      sets_at (Idle []) (open_at [] []) (item (codes "BEGIN") Accepted) from_a refl (λ e. absurd (not_live e))
-      (sets_at (open_at [] []) (open_at a_alone []) (item (codes "INSERT a") Accepted) from_savepoint refl (λ e. refl)
-      (sets_at (open_at a_alone []) (open_at a_alone (mark_1 ∷ [])) (item (codes "SAVEPOINT diesel_savepoint_1") Accepted) from_b refl (λ e. refl)
-      (sets_at (open_at a_alone (mark_1 ∷ [])) (open_at a_and_b (mark_1 ∷ [])) (item (codes "INSERT b") Accepted) from_back refl (λ e. refl)
-      (sets_at (open_at a_and_b (mark_1 ∷ [])) (open_at a_alone (mark_1 ∷ [])) (item (codes "ROLLBACK TO SAVEPOINT diesel_savepoint_1") Accepted) the_commit refl (λ e. refl)
-      (sets_at (open_at a_alone (mark_1 ∷ [])) (Idle a_alone) (item (codes "COMMIT") Accepted) [] refl (λ e. refl) tt)))));
+  none_in_idle = (lawful_meets (Idle []) (Idle a_alone) (items_of nested) refl).0;
   live = (tt, (tt, (tt, (tt, (tt, (not_live, tt))))));
 }
 

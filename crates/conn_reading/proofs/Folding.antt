@@ -1,5 +1,5 @@
 -- Each call of the manager keeps the stack of the fold, where none of its texts is refused.
-use Rattle.std.proofs.Common.{◌≡◌, ℕ, ◌-◌, ◌<◌, Bool, true, false, ◌||◌, ◌&&◌, if◌then◌else◌, nat_lt, List, [], ◌∷◌, length, codes, refl, sym, ap, ◌∙◌, subst, Some, None, Ok, Err, arith}
+use Rattle.std.proofs.Common.{◌≡◌, ℕ, ◌-◌, ◌<◌, Bool, true, false, ◌||◌, ◌&&◌, if◌then◌else◌, nat_lt, List, [], ◌∷◌, codes, refl, sym, ap, ◌∙◌, subst, Some, None, Ok, Err, arith}
 use Rattle.std.specs.Bool.{⊤}
 use Rattle.std.specs.List.{list_any}
 use Rattle.std.proofs.lemmas.Bool.Decides.{nat_tests}
@@ -20,7 +20,7 @@ use Rattle.conn_manager.specs.Manages.{Done, done, Reply, ask_text, begun, begin
 use Rattle.conn_manager.specs.Statuses.{Status, valid, retold, no_depth, at_depth, reply_of}
 use Rattle.conn_manager.specs.declared.status.InTransactionStatus.{InTransactionStatus}
 use Rattle.conn_manager.specs.declared.status.TransactionManagerStatus.TheVariants.{Valid, InError}
-use Rattle.conn_reading.specs.Folds.{Level, Stack, Nested, HasDepth, pushed, merged, dropped, IsDoomed, is_write_class, is_transaction_class, after_item, after_items, Begins, Commits, Rolls, after_reply, after_block, refuses_transaction, sets, SetsInOpen}
+use Rattle.conn_reading.specs.Folds.{Level, Stack, Nested, pushed, merged, dropped, IsDoomed, is_write_class, is_transaction_class, after_item, after_items, Begins, Commits, Rolls, after_reply, refuses_transaction, sets, SetsInOpen}
 use Rattle.conn_reading.specs.Verdicts.{Part, Holds, is_refused_by, runs_class}
 use Rattle.conn_reading.proofs.ItemsRead.{Reads}
 use Rattle.conn_reading.proofs.Ending.{ending_lowers, ending_is, ending_class}
@@ -220,34 +220,4 @@ rollback_folds d (Valid v) s p items a s' k h n reads none =
     elim v.in_transaction as (λ o. Holds d (valid o) s p → Nested (valid o) s k → Reads d s (rollback_in d (valid o) o) items a s' → Nested a.status s' (after_reply Rolls a.reply (after_items items k))) [
       | None ↦ (λ g m r. let e = stopped d s _ items a s' r in rw (e.0, e.1, e.2) m)
       | Some t ↦ (λ g m r. let e = rollback_at d t s p items a s' k g m r none in rw e.reply (e.nests tt))
-    ] h n reads
-
--- ---- the end of a block, whose level goes where it isn't kept
-
--- where the status has no depth the stack has one list
-no_level : (S : Status) (s : State) (k : Stack) → (HasDepth S (length k.levels) → ⊥) → Nested S s k → dropped k ≡ k
-no_level S (Idle w) k none n = rw n refl
-no_level S (Lost w) k none n = rw n refl
-no_level S (Open o) k none n = absurd (none n.0)
-
--- a block that commits: its level is kept where the reply is Ok
-pub commit_closes : (d : Dialect) (S : Status) (s : State) (p : Part) (items : List Item) (a : Done) (s' : State) (k : Stack) → Holds d S s p → Nested S s k → Reads d s (commit_process d S) items a s'
-    → list_any refuses_transaction items ≡ false → (a.reply ≡ Ok tt → IsDoomed (after_items items k).levels → ⊥) → Nested a.status s' (after_block a.reply (after_items items k))
-commit_closes d InError s p items a s' k h n reads none live =
-    let e = stopped d s _ items a s' reads in rw (e.0, e.1, e.2, no_level InError s k (λ x. x) n) n
-commit_closes d (Valid v) s p items a s' k h n reads none live =
-    elim v.in_transaction as (λ o. Holds d (valid o) s p → Nested (valid o) s k → Reads d s (commit_in d (valid o) o) items a s' → Nested a.status s' (after_block a.reply (after_items items k))) [
-      | None ↦ (λ g m r. let e = stopped d s _ items a s' r in rw (e.0, e.1, e.2, no_level no_depth s k (λ x. x) m) m)
-      | Some t ↦ (λ g m r. let e = commit_at d t s p items a s' k g m r none in rw e.reply (e.nests (live e.reply)))
-    ] h n reads
-
--- a block that rolls back: its level goes, whatever is answered
-pub rollback_closes : (d : Dialect) (S : Status) (s : State) (p : Part) (items : List Item) (a : Done) (s' : State) (k : Stack) → Holds d S s p → Nested S s k → Reads d s (rollback_process d S) items a s'
-    → list_any refuses_transaction items ≡ false → Nested a.status s' (dropped (after_items items k))
-rollback_closes d InError s p items a s' k h n reads none =
-    let e = stopped d s _ items a s' reads in rw (e.0, e.1, e.2, no_level InError s k (λ x. x) n) n
-rollback_closes d (Valid v) s p items a s' k h n reads none =
-    elim v.in_transaction as (λ o. Holds d (valid o) s p → Nested (valid o) s k → Reads d s (rollback_in d (valid o) o) items a s' → Nested a.status s' (dropped (after_items items k))) [
-      | None ↦ (λ g m r. let e = stopped d s _ items a s' r in rw (e.0, e.1, e.2, no_level no_depth s k (λ x. x) m) m)
-      | Some t ↦ (λ g m r. (rollback_at d t s p items a s' k g m r none).nests tt)
     ] h n reads

@@ -11,7 +11,6 @@ pub mod Beginning
 pub mod Ending
 pub mod ItemsRead
 pub mod Logs
-pub mod Seats
 pub mod Following
 pub mod Standing
 pub mod Nesting
@@ -19,8 +18,6 @@ pub mod PlainNesting
 pub mod Folding
 pub mod Levels
 pub mod FollowingFold
-pub mod FoldSeats
-pub mod Examples
 pub mod EachSeat
 pub mod PlainScripts
 pub mod Tracks
@@ -31,4 +28,6 @@ pub mod SessionNests
 pub mod SessionSlots
 pub mod SessionRuns
 pub mod SessionLaws
+pub mod OnSqlite
+pub mod Examples
 pub mod SessionExamples

@@ -10,9 +10,9 @@ use Rattle.conn_model.specs.declared.item.Item.{Item}
 use Rattle.conn_manager.specs.Statuses.{Status, valid, no_depth}
 use Rattle.conn_manager.specs.declared.status.InTransactionStatus.{InTransactionStatus}
 use Rattle.conn_manager.specs.declared.status.TransactionManagerStatus.TheVariants.{Valid, InError}
-use Rattle.conn_reading.specs.Reading.{Read, read, heard_of}
+use Rattle.conn_reading.specs.Reading.{heard_of}
 use Rattle.conn_reading.specs.Verdicts.{Part, fresh, part_of, part_after, current, opens, is_refused, breaks, runs_class, is_begin_class, BeginsClosed, Holds, HoldsIn, HoldsAt, Verdict, IsBorneOut, DepthOver, DepthOverIn, DepthOverAt, StandsOver}
-use Rattle.conn_reading.proofs.ItemsRead.{Reads, read_is}
+use Rattle.conn_reading.proofs.ItemsRead.{Reads}
 use Rattle.conn_reading.proofs.Safe.{Safe}
 
 -- ---- the current part of a log with one item more
@@ -105,18 +105,6 @@ module _ {A : Type 0} (d : Dialect) (status : A → Status) where
   pub sound_reads : (S : Status) (s : State) (before items : List Item) (process : Process A) (a : A) (end : State) → Sound d S before s → ((p : Part) → Holds d S s p → Safe d status s p process) → Reads d s process items a end
       → Sound d (status a) (before ++ items) end
   sound_reads S s before items process a end sound safe reads = sound_by process s before items a end sound.gives (safe (part_of before) sound.holds) reads
-
-  -- what was read is a front of what was left, and the invariant holds after it
-  pub record SoundAfter (before left : List Item) (r : Read A) : Type 0 where
-    pub used : List Item
-    pub all : left ≡ used ++ r.left
-    pub sound : Sound d (status r.value) (before ++ used) r.state
-
-  -- a safe process keeps the invariant over what it reads of what is left
-  pub sound_after : (S : Status) (s : State) (before left : List Item) (process : Process A) (r : Read A) → Sound d S before s → ((p : Part) → Holds d S s p → Safe d status s p process) → read d s process left ≡ Some r → SoundAfter before left r
-  sound_after S s before left process r sound safe is =
-      let h = read_is d s process left r is in
-      record { used = h.used; all = h.all; sound = sound_reads S s before h.used process r.value r.state sound safe h.reads }
 
 -- ---- what it gives
 

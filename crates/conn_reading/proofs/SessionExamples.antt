@@ -1,9 +1,9 @@
 -- A session that meets what the laws ask for.
-use Rattle.std.proofs.Common.{◌≡◌, ℕ, true, false, List, [], ◌∷◌, codes, refl, sym, ◌∙◌, subst, Some}
+use Rattle.std.proofs.Common.{◌≡◌, ℕ, true, false, List, [], ◌∷◌, codes, refl, Some}
 use Rattle.std.specs.Prelude.{◌==◌, if◌then◌else◌}
 use Rattle.std.specs.Fmt.{digits}
 use Rattle.conn_model.specs.Classes.{class, is_begin, is_built, is_write, same_text, begins, number_behind}
-use Rattle.conn_model.specs.States.{State, Idle, Open, step}
+use Rattle.conn_model.specs.States.{Idle}
 use Rattle.conn_model.specs.declared.item.Answer.TheVariants.{Accepted}
 use Rattle.conn_model.specs.declared.item.Call.TheVariants.{Exec}
 use Rattle.conn_model.specs.declared.item.Dialect.TheVariants.{Sqlite}
@@ -16,9 +16,9 @@ use Rattle.conn_script.specs.declared.command.Act.TheVariants as acts
 use Rattle.conn_script.specs.declared.command.Script.{Script}
 use Rattle.conn_script.specs.declared.command.Word.TheVariants as words
 use Rattle.conn_reading.specs.Answered.{Logs, answered}
-use Rattle.conn_reading.specs.Folds.{is_idle, sets, SetsInOpen}
 use Rattle.conn_reading.specs.Seats.{make_entry}
 use Rattle.conn_reading.specs.Sessions.{AllPlain, is_opened, unfolded, fold_entries, EntryPremises}
+use Rattle.conn_reading.proofs.OnSqlite.{lawful_premises}
 
 -- begin, write a, commit
 abbrev the_script : Script
@@ -69,22 +69,6 @@ the_fold : (fold_entries 0 the_log the_entries unfolded).stack.lowest ≡ codes 
 unfolding class is_begin is_built is_write same_text begins number_behind digits
 the_fold = refl
 
-abbrev open_with : List (List ℕ) → State
-open_with now = Open (record { base = []; now = now; marks = []; aborted = false })
-
-sets_at : (s after : State) (i : Item) (is : List Item) → step Sqlite s i ≡ Some after → (sets i ≡ true → is_idle s ≡ false) → SetsInOpen Sqlite after is → SetsInOpen Sqlite s (i ∷ is)
-sets_at s after i is e first rest = (first, λ x f. (let same : after ≡ x = cc (sym e ∙ f) in subst (λ (y : State). SetsInOpen Sqlite y is) same rest))
-
-not_so : false ≡ true → ⊥
-not_so e = cc
-
 they_meet : EntryPremises Sqlite 0 the_log the_entries
 unfolding class is_begin is_built is_write same_text begins number_behind digits
-they_meet = record {
-  none_refused = refl;
-  none_in_idle =
-      sets_at (Idle []) (open_with []) (item (codes "BEGIN")) (item (codes "INSERT a") ∷ item (codes "COMMIT") ∷ []) refl (λ e. absurd (not_so e))
-      (sets_at (open_with []) (open_with (codes "INSERT a" ∷ [])) (item (codes "INSERT a")) (item (codes "COMMIT") ∷ []) refl (λ e. refl)
-      (sets_at (open_with (codes "INSERT a" ∷ [])) (Idle (codes "INSERT a" ∷ [])) (item (codes "COMMIT")) [] refl (λ e. refl) tt));
-  live = (tt, (tt, (tt, (not_so, (tt, tt)))));
-}
+they_meet = lawful_premises Sqlite 0 the_log the_entries (Idle (codes "INSERT a" ∷ [])) refl refl refl

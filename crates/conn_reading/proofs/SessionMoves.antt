@@ -18,8 +18,9 @@ use Rattle.conn_reading.specs.Seats.{Seat, entry_on, place_of, word_of}
 use Rattle.conn_reading.specs.Sessions.{SendsPlain, CommitsLive, mark_of, after_mark, between, MarkLive}
 use Rattle.conn_reading.proofs.Deeds.{IsCall, reads_call}
 use Rattle.conn_reading.proofs.EachSeat.{held, count, StandsAt, stands_there, at_number, each_at, each_other, each_set, count_at, count-set}
+use Rattle.conn_reading.proofs.ItemsRead.{ReadsFront, reads_front}
 use Rattle.conn_reading.proofs.SessionKept.{Tracks, SeatIs, SeatOf, Keeps, ProgressKeeps, EndsWith, EntrySays, TakenKeeps, says_nothing}
-use Rattle.conn_reading.proofs.Tracks.{Track, IsTrack, ReadsFront, reads_front, moved, moved_is, moved_count, folded, folded_at, fold-last, live-last, between_is}
+use Rattle.conn_reading.proofs.Tracks.{Track, IsTrack, moved, moved_is, moved_count, folded, folded_at, fold-last, live-last, between_is}
 
 -- ---- one number of many
 

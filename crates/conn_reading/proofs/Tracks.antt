@@ -1,58 +1,16 @@
 -- The history of a connection, as far as its log was read.
-use Rattle.std.proofs.Common.{◌≡◌, ℕ, ◌+◌, ◌-◌, Bool, true, false, ◌&&◌, if◌then◌else◌, cond, List, [], ◌∷◌, ◌++◌, length, take, drop, refl, sym, ap, ◌∙◌, subst, append_assoc, append-nil, length-append, arith, Option, Some, None}
-use Rattle.std.specs.Option.{option_and_then}
-use Rattle.std.specs.Str.{bytes_eq}
-use Rattle.conn_model.specs.Process.{Process, Stop, Ask}
-use Rattle.conn_model.specs.States.{State, Idle, step}
+use Rattle.std.proofs.Common.{◌≡◌, ℕ, ◌+◌, ◌-◌, List, [], ◌∷◌, ◌++◌, length, take, drop, refl, sym, ap, ◌∙◌, subst, append_assoc, append-nil, length-append, arith}
+use Rattle.std.proofs.Math.Seq.{take-append_seam, drop-append_seam}
+use Rattle.conn_model.specs.States.{State, Idle}
 use Rattle.conn_model.specs.declared.item.Dialect.{Dialect}
 use Rattle.conn_model.specs.declared.item.Item.{Item}
 use Rattle.conn_manager.specs.Manages.{Done}
 use Rattle.conn_manager.specs.Statuses.{Status, no_depth}
-use Rattle.conn_reading.specs.Calls.{same_call}
 use Rattle.conn_reading.specs.Folds.{Stack, alone, after_items, kind_of, after_step, fold_of, KeepsLive, AllKeepLive}
 use Rattle.conn_reading.specs.Histories.{Deed, IsDeed, process_of, Step, Follow, items_of, IsHistory}
-use Rattle.conn_reading.specs.Reading.{Read, read, heard_of, ReadsItems}
+use Rattle.conn_reading.specs.Reading.{Read, ReadsItems}
 use Rattle.conn_reading.specs.Sessions.{Folded, between}
-use Rattle.conn_reading.proofs.Seats.{taken}
-
--- ---- what a process reads
-
--- a front of what was left, and just that
-pub record ReadsFront {A : Type 0} (d : Dialect) (s : State) (p : Process A) (left : List Item) (r : Read A) : Type 0 where
-  pub used : List Item
-  pub all : left ≡ used ++ r.left
-  pub reads : ReadsItems d s p used r.value r.state
-
-pub reads_front : {A : Type 0} (d : Dialect) (s : State) (p : Process A) (items : List Item) (r : Read A) → read d s p items ≡ Some r → ReadsFront d s p items r
-reads_front {A} d s (Stop x) items r is =
-    let first : Read A = record { value = x; state = s; left = items } in
-    let e : first ≡ r = cc in
-    subst (λ (q : Read A). ReadsFront d s (Stop x) items q) e (record { used = []; all = refl; reads = record { whatever_follows = λ more. refl } })
-reads_front {A} d s (Ask call text next) [] r is = absurd (cc)
-reads_front {A} d s (Ask call text next) (i ∷ is) r reads =
-    tested (same_call i.call call) (bytes_eq i.text text) (step d s i) refl refl refl reads (λ after e. reads_front d after (next (heard_of d after i)) is r e)
-  where
-    tested : (a b : Bool) (o : Option State) → same_call i.call call ≡ a → bytes_eq i.text text ≡ b → step d s i ≡ o
-        → (if a && b then option_and_then (λ (after : State). read d after (next (heard_of d after i)) is) o else None) ≡ Some r
-        → ((after : State) → read d after (next (heard_of d after i)) is ≡ Some r → ReadsFront d after (next (heard_of d after i)) is r)
-        → ReadsFront d s (Ask call text next) (i ∷ is) r
-    tested false b o p q t e rest = absurd (cc)
-    tested true false o p q t e rest = absurd (cc)
-    tested true true None p q t e rest = absurd (cc)
-    tested true true (Some after) p q t e rest =
-        let h = rest after e in
-        record {
-          used = i ∷ h.used;
-          all = ap (λ (l : List Item). i ∷ l) h.all;
-          reads = record {
-            whatever_follows = λ more.
-                let go : State → Option (Read A) = λ (x : State). read d x (next (heard_of d x i)) (h.used ++ more) in
-                ap (λ (c : Bool). cond (c && bytes_eq i.text text) (option_and_then go (step d s i)) None) p
-                ∙ ap (λ (c : Bool). cond c (option_and_then go (step d s i)) None) q
-                ∙ ap (option_and_then go) t
-                ∙ h.reads.whatever_follows more;
-          };
-        }
+use Rattle.conn_reading.proofs.ItemsRead.{ReadsFront}
 
 -- ---- a track
 
@@ -102,7 +60,7 @@ moved_count t deed used r = ap length (items-last t.steps (record { deed = deed;
 
 -- the log up to what was read is that of the calls
 pub track_log : (d : Dialect) (log left : List Item) (t : Track) (mark : ℕ) → IsTrack d log left t → length (items_of t.steps) ≡ mark → take mark log ≡ items_of t.steps
-track_log d log left t mark h count = ap (λ (l : List Item). take mark l) h.all ∙ ap (λ (n : ℕ). take n (items_of t.steps ++ left)) (sym count) ∙ taken (items_of t.steps) left
+track_log d log left t mark h count = ap (λ (l : List Item). take mark l) h.all ∙ ap (λ (n : ℕ). take n (items_of t.steps ++ left)) (sym count) ∙ take-append_seam (items_of t.steps) left
 
 -- the calls are a history that ends with their status
 pub track_history : (d : Dialect) (log left : List Item) (t : Track) (S : Status) → IsTrack d log left t → t.status ≡ S → IsHistory d t.steps S
@@ -122,10 +80,6 @@ pub live-last : (steps : List Step) (e : Step) (k : Stack) → AllKeepLive steps
 live-last [] e k h g = (g, tt)
 live-last (x ∷ steps) e k h g = (h.0, live-last steps e (after_step x k) h.1 g)
 
-dropped_front : (xs ys : List Item) → drop (length xs) (xs ++ ys) ≡ ys
-dropped_front [] ys = refl
-dropped_front (x ∷ xs) ys = dropped_front xs ys
-
 pub folded_at : (m n : ℕ) (k l : Stack) → m ≡ n → k ≡ l → (let F : Type 0 = Folded in let x : F = record { mark = m; stack = k } in let y : F = record { mark = n; stack = l } in x ≡ y)
 folded_at m n k l e f = cc
 
@@ -134,8 +88,8 @@ pub between_is : (log used left : List Item) (t : Track) (mark : ℕ) → log �
 between_is log used left t mark all is =
     let n : ℕ = length (items_of t.steps) in
     let long : mark - n ≡ length used = omega (arith, is) in
-    let rest : drop n log ≡ used ++ left = ap (drop n) all ∙ dropped_front (items_of t.steps) (used ++ left) in
-    let items : take (mark - n) (drop n log) ≡ used = ap (λ (m : ℕ). take m (drop n log)) long ∙ ap (take (length used)) rest ∙ taken used left in
+    let rest : drop n log ≡ used ++ left = ap (drop n) all ∙ drop-append_seam (items_of t.steps) (used ++ left) in
+    let items : take (mark - n) (drop n log) ≡ used = ap (λ (m : ℕ). take m (drop n log)) long ∙ ap (take (length used)) rest ∙ take-append_seam used left in
     ap (λ (l : List Item). after_items l (fold_of t.steps (alone []))) items
 
 -- nothing was read

@@ -160,11 +160,6 @@ after_reply Rolls (Ok u) k = dropped k
 after_reply Sends (Ok u) k = k
 after_reply kind (Err e) k = k
 
--- the end of a block keeps its level where it answers Ok, and else drops it
-abbrev pub after_block : Reply → Stack → Stack
-after_block (Ok u) k = merged k
-after_block (Err e) k = dropped k
-
 -- the kind of a call
 abbrev pub kind_of : Deed → Kind
 kind_of Begin = Begins

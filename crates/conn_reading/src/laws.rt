@@ -1,16 +1,18 @@
 //! Laws of the tracked status: of the calls of one connection, and of the entries of a session. Each function does nothing:
 //! its contract is the law.
-ghost use Rattle.std.specs.Prelude.{◌≡◌, ℕ, true, List, [], Some, Ok};
+ghost use Rattle.std.specs.Prelude.{◌≡◌, ℕ, true, false, List, [], Some, Ok};
+ghost use Rattle.std.specs.List.{list_any};
 ghost use Rattle.std.specs.Option.{option_map};
 ghost use Rattle.conn_model.specs.States.{state_of, kept};
 ghost use Rattle.conn_model.specs.declared.item.Dialect.{Dialect};
+ghost use Rattle.conn_model.specs.declared.item.Dialect.TheVariants.{Sqlite};
 ghost use Rattle.conn_manager.specs.Statuses.{Status};
 ghost use Rattle.conn_report.specs.declared.entry.Entry.{Entry};
 ghost use Rattle.conn_script.specs.Grammar.{script_of};
 ghost use Rattle.conn_script.specs.declared.command.Script.{Script};
 ghost use Rattle.conn_reading.specs.Answered.{Logs, answered};
 ghost use Rattle.conn_reading.specs.Verdicts.{Verdict, StandsOver};
-ghost use Rattle.conn_reading.specs.Folds.{alone, fold_of, FoldPremises, NestedMeaning};
+ghost use Rattle.conn_reading.specs.Folds.{alone, fold_of, FoldPremises, NestedMeaning, refuses_transaction};
 ghost use Rattle.conn_reading.specs.Histories.{Step, items_of, IsHistory};
 ghost use Rattle.conn_reading.specs.Sessions.{EachRecorded, EachVerdict, EachStandsOver, EachClean, EntryPremises, EachNested, is_opened, unfolded, fold_entries};
 
@@ -67,4 +69,9 @@ pub fn servers_hold_the_stacks_of_entries()
 /// refused, no savepoint was set in an idle server, and no level in which the transaction was aborted was kept.
 pub fn kept_writes_are_the_fold_of_entries()
     ensures { (bytes : List ℕ) (script : Script) (logs : Logs) (entries : List Entry) → script_of bytes ≡ Ok script → answered script logs ≡ Some entries → (n : ℕ) → is_opened n entries ≡ true → EntryPremises script.dialect n (logs n) entries → option_map kept (state_of script.dialect (logs n)) ≡ Some (fold_entries n (logs n) entries unfolded).stack.lowest }
+{}
+
+/// On SQLite the first premise of the fold gives the other two, for the log of each server that was opened.
+pub fn sqlite_wants_one_premise()
+    ensures { (bytes : List ℕ) (script : Script) (logs : Logs) (entries : List Entry) → script_of bytes ≡ Ok script → answered script logs ≡ Some entries → script.dialect ≡ Sqlite → (n : ℕ) → is_opened n entries ≡ true → list_any refuses_transaction (logs n) ≡ false → EntryPremises script.dialect n (logs n) entries }
 {}

@@ -1,10 +1,13 @@
 -- What the whole call answers.
-use Rattle.std.specs.Prelude.{ℕ, ◌≡◌, ◌⊎◌, Bool, true, List, [], ◌∷◌, map, Option, Some, None, Result, Ok, Err, codes, string_bytes, MatchResult}
+use Rattle.std.specs.Prelude.{ℕ, ◌≡◌, ◌⊎◌, Bool, true, false, List, [], ◌∷◌, map, Option, Some, None, Result, Ok, Err, codes, string_bytes, MatchResult}
+use Rattle.std.specs.List.{list_any}
 use Rattle.std.specs.Option.{option_map}
 use Rattle.std.specs.declared.string.String.{String}
 use Rattle.std.specs.declared.alloc.Global.{Global}
 use Rattle.conn_model.specs.States.{state_of, kept}
+use Rattle.conn_model.specs.declared.item.Dialect.TheVariants.{Sqlite}
 use Rattle.conn_reading.specs.Answered.{answered, servers_opened}
+use Rattle.conn_reading.specs.Folds.{refuses_transaction}
 use Rattle.conn_reading.specs.Sessions.{EachVerdict, EachStandsOver, EachClean, EntryPremises, EachNested, is_opened, fold_entries, unfolded}
 use Rattle.conn_report.specs.declared.entry.Entry.{Entry}
 use Rattle.conn_report.specs.declared.entry.Transcript.{Transcript}
@@ -24,7 +27,8 @@ pub record IsAnswered (script : Script) (k : Connected) (entries : List Entry) :
 
 -- the logs of the servers that are back bear the entries out: each status up to its mark, each depth over its server, no depth
 -- where `get` hands out; under the premises of the fold a server held, after each entry of its connection, the stack of the
--- fold up to it, and it kept the fold of all of them
+-- fold up to it, and it kept the fold of all of them; on SQLite these premises hold of each server that was opened and refused
+-- no text of a transaction
 pub record AreBorneOut (script : Script) (k : Connected) (entries : List Entry) : Type 0 where
   pub verdicts : EachVerdict script.dialect (logs_of k.returned) entries
   pub depths : EachStandsOver script.dialect (logs_of k.returned) entries
@@ -32,6 +36,7 @@ pub record AreBorneOut (script : Script) (k : Connected) (entries : List Entry) 
   pub nested : (n : ℕ) → EntryPremises script.dialect n (logs_of k.returned n) entries → EachNested script.dialect n (logs_of k.returned n) entries unfolded
   pub folds : (n : ℕ) → is_opened n entries ≡ true → EntryPremises script.dialect n (logs_of k.returned n) entries
       → option_map kept (state_of script.dialect (logs_of k.returned n)) ≡ Some (fold_entries n (logs_of k.returned n) entries unfolded).stack.lowest
+  pub on_sqlite : script.dialect ≡ Sqlite → (n : ℕ) → is_opened n entries ≡ true → list_any refuses_transaction (logs_of k.returned n) ≡ false → EntryPremises script.dialect n (logs_of k.returned n) entries
 
 -- some bytes stand for the script
 pub record IsParsed (script : Script) : Type 0 where
