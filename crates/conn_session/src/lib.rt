@@ -11,7 +11,5 @@ pub use conn_io::{BytesSink, BytesSource, Failed, Sink, Source};
 pub use conn_report::{Entry, Reply, Transcript, Word, render};
 pub use conn_script::{Script, SessionError, parse_script};
 pub use connection::ServerConnection;
-pub use run::{close_all, run_all};
-pub use session::{Opening, Session};
 pub use top::run_command;
 pub use transcript::run_session;

@@ -10,7 +10,8 @@ ghost use Rattle.conn_manager.specs.Manages.{ActsOrMemory, done};
 ghost use Rattle.conn_reading.specs.Answered.{Logs, process_of, reads, reads_on};
 ghost use Rattle.conn_result.specs.declared.error.Error.TheVariants.{OutOfMemory as out_of_memory};
 
-use crate::{Opening, ServerConnection, Session};
+use crate::ServerConnection;
+use crate::session::{Opening, Session};
 use conn_manager::{
     AnsiTransactionManager, Connection, SimpleConnection, TransactionManagerStatus,
 };

@@ -8,7 +8,7 @@ ghost use Rattle.conn_session.specs.Plays.{IsPlayed};
 ghost use Rattle.conn_session.specs.Commands.{IsAnswered, IsParsed, Transcribes, Sessions};
 
 use crate::run::{close_all, run_all};
-use crate::{Opening, Session};
+use crate::session::{Opening, Session};
 use conn_report::{Entry, Servers, Texts, Transcript};
 use conn_script::{Script, SessionError, parse_script};
 use conn_server::{Connector, Target, Text};
