@@ -1,7 +1,9 @@
-//! Tests of whole sessions over servers in memory: where the source or the sink fails, and where nothing is run.
+//! Tests of whole sessions over servers in memory: what is reported and kept, where the source or the sink fails, and where nothing is run.
 #![tactic(auto)]
 
 #[cfg(test)]
 mod manager_tests;
+#[cfg(test)]
+mod refusal_tests;
 #[cfg(test)]
 mod tests;

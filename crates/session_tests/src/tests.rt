@@ -17,9 +17,9 @@ const NAME_AGAIN: &[u8] =
 
 /// A status, and the bytes that were written.
 #[derive(Drop)]
-struct Ended {
-    status: u8,
-    written: Vec<u8>,
+pub struct Ended {
+    pub status: u8,
+    pub written: Vec<u8>,
 }
 
 /// Runs a script under words, which a space parts, from a source and into a sink of which these calls fail.
@@ -46,7 +46,7 @@ fn run_between(
 }
 
 /// Runs a script where nothing fails.
-fn run_whole(alloc: Global, script: &[u8]) -> Result<Ended, AllocError> {
+pub fn run_whole(alloc: Global, script: &[u8]) -> Result<Ended, AllocError> {
     run_between(alloc, "run", script, &[], 4096, &[])
 }
 
