@@ -1,7 +1,7 @@
 //! A source and a sink in memory, of which chosen calls fail.
 ghost use Rattle.std.specs.Prelude.{◌≡◌, ◌<◌, ◌≤◌, ◌-◌, ◌++◌, ◌↔◌, [], min, length, take, drop, vec_len, vec_capacity, IfOk, OnOk, OnErr, IsErr, IsTrue};
 ghost use Rattle.conn_result.specs.Causes.{HasCause};
-ghost use Rattle.conn_io.specs.Bytes.{Takes, IsAtEnd, Adds};
+ghost use Rattle.std.specs.Io.KnownBytes.{Consumes, IsAtEnd, Appends, Keeps};
 ghost use Rattle.conn_io.specs.Memory.{uncalled, one_more, called, faulted, is_failing, is_refused};
 
 use crate::traits::{Failed, Sink, Source};
@@ -115,9 +115,9 @@ impl Source for BytesSource {
         ensures fault { OnErr result (self.new ≡ record self.old { calls = faulted self.old.calls }) }
         ensures untouched { OnErr result (into.new ≡ into.old) }
         ensures count { IfOk result (λ n. n ≤ length into.new) }
-        ensures takes { IfOk result (λ n. Takes (Some self.old.left) (Some self.new.left) (take n into.new)) }
+        ensures takes { IfOk result (λ n. Consumes (Some self.old.left) (Some self.new.left) (take n into.new)) }
         ensures ends { IfOk result (λ n. n ≡ 0 → 0 < length into.new → IsAtEnd (Some self.new.left)) }
-        ensures failed { OnErr result (Some self.new.left ≡ Some self.old.left) }
+        ensures failed { OnErr result (Keeps (Some self.old.left) (Some self.new.left)) }
         ensures cause { HasCause self.old.calls.faults self.new.calls.faults result }
     {
         self.calls.begin()?;
@@ -193,8 +193,8 @@ impl Sink for BytesSink {
         ensures fault { OnErr result (self.new ≡ record self.old { calls = faulted self.old.calls }) }
         ensures count { IfOk result (λ n. n ≤ length piece.now) }
         ensures moves { IfOk result (λ n. 0 < length piece.now → 0 < n) }
-        ensures adds { IfOk result (λ n. Adds (Some self.old.held) (Some self.new.held) (take n piece.now)) }
-        ensures failed { OnErr result (Some self.new.held ≡ Some self.old.held) }
+        ensures adds { IfOk result (λ n. Appends (Some self.old.held) (Some self.new.held) (take n piece.now)) }
+        ensures failed { OnErr result (Keeps (Some self.old.held) (Some self.new.held)) }
         ensures cause { HasCause self.old.calls.faults self.new.calls.faults result }
     {
         self.calls.begin()?;

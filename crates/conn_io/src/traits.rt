@@ -1,7 +1,7 @@
 //! Where bytes come from and where they go.
 ghost use Rattle.std.specs.Prelude.{◌≡◌, ◌<◌, ◌≤◌, ℕ, List, Option, length, take, IfOk, OnErr};
 ghost use Rattle.conn_result.specs.Causes.{HasCause};
-ghost use Rattle.conn_io.specs.Bytes.{Takes, IsAtEnd, Adds};
+ghost use Rattle.std.specs.Io.KnownBytes.{Consumes, IsAtEnd, Appends, Keeps};
 
 /// A read or a write failed.
 #[derive(Clone, Copy, Debug, PartialEq, Eq)]
@@ -19,9 +19,9 @@ pub trait Source {
     /// is the end. A read that fails takes nothing and is counted.
     fn read(&mut self, into: &mut [u8]) -> Result<usize, Failed>
         ensures count { IfOk result (λ n. n ≤ length into.new) }
-        ensures takes { IfOk result (λ n. Takes (left self.old) (left self.new) (take n into.new)) }
+        ensures takes { IfOk result (λ n. Consumes (left self.old) (left self.new) (take n into.new)) }
         ensures ends { IfOk result (λ n. n ≡ 0 → 0 < length into.new → IsAtEnd (left self.new)) }
-        ensures failed { OnErr result (left self.new ≡ left self.old) }
+        ensures failed { OnErr result (Keeps (left self.old) (left self.new)) }
         ensures cause { HasCause (faults self.old) (faults self.new) result };
 }
 
@@ -38,7 +38,7 @@ pub trait Sink {
     fn write(&mut self, piece: &[u8]) -> Result<usize, Failed>
         ensures count { IfOk result (λ n. n ≤ length piece.now) }
         ensures moves { IfOk result (λ n. 0 < length piece.now → 0 < n) }
-        ensures adds { IfOk result (λ n. Adds (held self.old) (held self.new) (take n piece.now)) }
-        ensures failed { OnErr result (held self.new ≡ held self.old) }
+        ensures adds { IfOk result (λ n. Appends (held self.old) (held self.new) (take n piece.now)) }
+        ensures failed { OnErr result (Keeps (held self.old) (held self.new)) }
         ensures cause { HasCause (faults self.old) (faults self.new) result };
 }

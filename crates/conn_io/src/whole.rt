@@ -1,7 +1,8 @@
 //! Reading and writing to the end, over any source and sink.
-ghost use Rattle.std.specs.Prelude.{◌≡◌, ◌<◌, ◌≤◌, ◌+◌, ℕ, List, Option, length, take, vec_len, ◌++◌, IfOk, IfSome, OnOk, OnErr, IsErrOf};
-ghost use Rattle.conn_result.specs.Causes.{Rose, HasCause};
-ghost use Rattle.conn_io.specs.Bytes.{Takes, IsAtEnd, Adds, AddsPrefix};
+ghost use Rattle.std.specs.Prelude.{◌≡◌, ◌<◌, ◌≤◌, ◌+◌, ℕ, List, Option, length, take, vec_len, ◌++◌, IfOk, IfSome, OnOk, OnErr};
+ghost use Rattle.conn_result.specs.Causes.{HasCause};
+ghost use Rattle.std.specs.Io.KnownBytes.{Consumes, IsAtEnd, Appends};
+ghost use Rattle.conn_io.specs.Bytes.{AppendsPrefix, CountsRead};
 
 use crate::traits::{Failed, Sink, Source};
 use std::alloc::Global;
@@ -22,10 +23,10 @@ fn read_more<I: Source>(
 ) -> Result<usize, ReadError>
     requires { 0 < room }
     ensures count { IfOk result (λ n. (n ≤ room) × (vec_len bytes.new ≡ vec_len bytes.old + n)) }
-    ensures takes { IfOk result (λ n. (taken : List ℕ) × (bytes.new.items ≡ bytes.old.items ++ taken) × Takes (I.left source.old) (I.left source.new) taken) }
+    ensures takes { IfOk result (λ n. (taken : List ℕ) × (bytes.new.items ≡ bytes.old.items ++ taken) × Consumes (I.left source.old) (I.left source.new) taken) }
     ensures ends { IfOk result (λ n. n ≡ 0 → IsAtEnd (I.left source.new)) }
     ensures later { I.faults source.old ≤ I.faults source.new }
-    ensures failed { IsErrOf result ReadError.Failed → Rose (I.faults source.old) (I.faults source.new) }
+    ensures counts { CountsRead (I.faults source.old) (I.faults source.new) result }
 {
     let mut place = [0u8; 4096];
     let end = room.min(place.len());
@@ -40,13 +41,13 @@ fn read_more<I: Source>(
     }
 }
 
-/// Reads to the end, or until `most` bytes are read. A failure comes only where the source counted it.
+/// Reads to the end, or until `most` bytes are read. The source's count of faults rises exactly with a failure.
 pub fn read_all<I: Source>(alloc: Global, source: &mut I, most: usize) -> Result<Vec<u8>, ReadError>
     ensures ok { IfOk result (λ bytes. IfSome (I.left source.old) (λ left. bytes.items ≡ take most left)) }
     ensures count { IfOk result (λ bytes. vec_len bytes ≤ most) }
-    ensures takes { IfOk result (λ bytes. Takes (I.left source.old) (I.left source.new) bytes.items) }
+    ensures takes { IfOk result (λ bytes. Consumes (I.left source.old) (I.left source.new) bytes.items) }
     ensures later { I.faults source.old ≤ I.faults source.new }
-    ensures failed { IsErrOf result ReadError.Failed → Rose (I.faults source.old) (I.faults source.new) }
+    ensures counts { CountsRead (I.faults source.old) (I.faults source.new) result }
 {
     let mut bytes = Vec::new(alloc);
     while bytes.len() < most {
@@ -60,8 +61,8 @@ pub fn read_all<I: Source>(alloc: Global, source: &mut I, most: usize) -> Result
 
 /// Writes all of the bytes. Where a write fails, some of them, and not all, are written before.
 pub fn write_all<O: Sink>(sink: &mut O, bytes: &[u8]) -> Result<(), Failed>
-    ensures ok { OnOk result (Adds (O.held sink.old) (O.held sink.new) bytes.now) }
-    ensures err { OnErr result (AddsPrefix (O.held sink.old) (O.held sink.new) bytes.now) }
+    ensures ok { OnOk result (Appends (O.held sink.old) (O.held sink.new) bytes.now) }
+    ensures err { OnErr result (AppendsPrefix (O.held sink.old) (O.held sink.new) bytes.now) }
     ensures cause { HasCause (O.faults sink.old) (O.faults sink.new) result }
 {
     let mut at = 0;

@@ -2,7 +2,7 @@
 use Rattle.std.proofs.Common.{◌≡◌, ℕ, Bool, true, false, if◌then◌else◌, List, [], ◌∷◌, ◌++◌, refl, sym, ◌∙◌, subst, Some, None}
 use Rattle.conn_model.specs.Classes.{class}
 use Rattle.conn_model.specs.Process.{Process, Stop, Ask, Heard, refusal_of, plain_heard}
-use Rattle.conn_model.specs.States.{State, Idle, Open, Lost, Transaction, step_by, accepts, idle_accepts, open_accepts, aborted_accepts, accepts_prepare, commits, told_of}
+use Rattle.conn_model.specs.States.{step_refused, State, Idle, Open, Lost, Transaction, step_by, accepts, idle_accepts, open_accepts, aborted_accepts, accepts_prepare, commits, told_of}
 use Rattle.conn_model.specs.declared.class.Class.{Class}
 use Rattle.conn_model.specs.declared.class.Class.TheVariants as of
 use Rattle.conn_model.specs.declared.item.Answer.{Answer}
@@ -88,7 +88,7 @@ accepted_keeps d S s mid p Fetch text c h is = absurd (cc)
 pub call_keeps : (d : Dialect) (S : Status) (s mid : State) (p : Part) (call : Call) (text : List ℕ) (answer : Answer) → is_plain (class text) ≡ true → Holds d S s p → step_by d s call text answer ≡ Some mid
     → Holds d (retold d (refusal_of answer) (told_of d mid) S) mid (part_after p call text answer)
 call_keeps d S s mid p call text Accepted c h is = subst (λ (b : Bool). Holds d (retold d None (told_of d mid) S) mid (if b then fresh else p)) (sym (plain_call call text c)) (accepted_keeps d S s mid p call text c h is)
-call_keeps d S s mid p call text (Refused x e) c h is = refused_keeps d S s mid p (part_after p call text (Refused x e)) (commits call text) x e (refuses_as p call text x e) h is
+call_keeps d S s mid p call text (Refused x e) c h is = refused_keeps d S s mid p (part_after p call text (Refused x e)) (commits call text) x e (refuses_as p call text x e) h (step_refused d s text call text x e mid is).1
 
 module _ {A : Type 0} (d : Dialect) (status : A → Status) where
   -- it sends plain texts, and ends with the status that the items tell

@@ -2,7 +2,7 @@
 use Rattle.std.proofs.Common.{◌≡◌, ℕ, Bool, true, false, if◌then◌else◌, List, [], ◌∷◌, ◌++◌, length, refl, sym, ap, ◌∙◌, subst, Option, Some, None}
 use Rattle.conn_model.specs.Classes.{class}
 use Rattle.conn_model.specs.Process.{Process, Stop, Ask, refusal_of}
-use Rattle.conn_model.specs.States.{State, Idle, Open, Lost, Transaction, Writes, step_by, refuses, open_refuses, is_serialization_failure, commits, told_of, accepts, accepts_prepare, idle_accepts, open_accepts, aborted_accepts}
+use Rattle.conn_model.specs.States.{State, Idle, Open, Lost, Transaction, Writes, step_by, step_refused, refuses, open_refuses, is_serialization_failure, commits, told_of, accepts, accepts_prepare, idle_accepts, open_accepts, aborted_accepts}
 use Rattle.conn_model.specs.declared.class.Class.{Class}
 use Rattle.conn_model.specs.declared.class.Class.TheVariants as of
 use Rattle.conn_model.specs.declared.item.Answer.{Answer}
@@ -151,7 +151,7 @@ accepted_nests d S s mid k Fetch text c n is = absurd (cc)
 item_nests : (d : Dialect) (S : Status) (s mid : State) (k : Stack) (i : Item) (answer : Answer) → i.answer ≡ answer → is_plain (class i.text) ≡ true → Nested S s k → step_by d s i.call i.text answer ≡ Some mid
     → Nested (retold d (refusal_of answer) (told_of d mid) S) mid (after_item i k)
 item_nests d S s mid k i Accepted a c n is = rw a (accepted_nests d S s mid k i.call i.text c n is)
-item_nests d S s mid k i (Refused x e) a c n is = rw a (refused_nests d S s mid k (commits i.call i.text) x e n is)
+item_nests d S s mid k i (Refused x e) a c n is = rw a (refused_nests d S s mid k (commits i.call i.text) x e n (step_refused d s i.text i.call i.text x e mid is).1)
 
 -- plain texts keep the stack, whatever is refused
 pub plainly_nests : {A : Type 0} (d : Dialect) (status : A → Status) (S : Status) (s : State) (process : Process A) (items : List Item) (a : A) (end : State) (k : Stack) → Plainly d status S process → Nested S s k → Reads d s process items a end

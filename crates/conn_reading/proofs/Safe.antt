@@ -3,7 +3,7 @@ use Rattle.std.proofs.Common.{◌≡◌, ℕ, Bool, true, false, ◌||◌, if◌
 use Rattle.conn_result.specs.declared.error.Error.TheVariants.{DatabaseError}
 use Rattle.conn_model.specs.Classes.{class}
 use Rattle.conn_model.specs.Process.{Process, Stop, Ask, refusal_of, plain_heard}
-use Rattle.conn_model.specs.States.{State, step_by, commits, told_of, accepts, is_closed}
+use Rattle.conn_model.specs.States.{step_refused, State, step_by, commits, told_of, accepts, is_closed}
 use Rattle.conn_model.specs.declared.item.Answer.{Answer}
 use Rattle.conn_model.specs.declared.item.Answer.TheVariants.{Accepted, Refused}
 use Rattle.conn_model.specs.declared.item.Call.{Call}
@@ -58,5 +58,5 @@ asks d S s p text next closed h accepted refused = (closed, answers)
     answers Accepted mid is = accepted mid is
     answers (Refused x e) mid is =
         refused x (retold d (Some x) (told_of d mid) S) mid (part_after p Exec text (Refused x e))
-        (refused_keeps d S s mid p (part_after p Exec text (Refused x e)) (commits Exec text) x e (refuses_as p Exec text x e) h is)
+        (refused_keeps d S s mid p (part_after p Exec text (Refused x e)) (commits Exec text) x e (refuses_as p Exec text x e) h (step_refused d s text Exec text x e mid is).1)
         refl (broke_by p text x e)

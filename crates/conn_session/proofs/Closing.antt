@@ -1,17 +1,19 @@
 -- Giving servers back, one by one from the end.
-use Rattle.std.proofs.Common.{◌≡◌, ◌+◌, List, [], ◌∷◌, ◌++◌, length, map, Option, Some, None, refl, sym, ap, subst, ◌∙◌, append-nil, arith}
+use Rattle.std.proofs.Common.{◌≡◌, ℕ, ◌+◌, ◌≤◌, List, [], ◌∷◌, ◌++◌, length, map, Option, Some, None, refl, sym, ap, subst, ◌∙◌, append-nil, arith}
 use Rattle.std.specs.Option.{option_map}
 use Rattle.std.proofs.lemmas.List.{map-append, length-append}
 use Rattle.std.proofs.lemmas.List.Elements.{filter_map-append}
 use Rattle.conn_model.specs.Seen.{Seen}
 use Rattle.conn_server.specs.Connected.{Connected, takes_back}
-use Rattle.conn_session.specs.Worlds.{IsAccounted, held_of, held_in, world}
+use Rattle.conn_session.specs.Worlds.{IsAccounted, faults_in, held_of, held_in, world}
 use Rattle.conn_session.specs.declared.connection.ServerConnection.{ServerConnection}
 use Rattle.conn_model.specs.declared.item.Dialect.{Dialect}
 use Rattle.conn_reading.specs.Answered.{Logs}
-use Rattle.conn_session.specs.Known.{Have, IsKnown, IsBack}
+use Rattle.conn_session.specs.Known.{Have, GoBy, IsKnown, IsBack}
 use Rattle.conn_session.proofs.Knowing
 use Rattle.conn_session.proofs.Moves
+use Rattle.conn_session.proofs.Faults.{faults-append}
+use Rattle.conn_session.specs.Accounts.{faults}
 use Rattle.conn_session.proofs.Steps.{accounts_at}
 
 module _ {S : Type 0} (seen : S → Seen) where
@@ -51,18 +53,50 @@ module _ {S : Type 0} (seen : S → Seen) where
   pub length_same : (slots rest : List (Option (ServerConnection S))) (slot : Option (ServerConnection S)) → slots ≡ rest ++ slot ∷ [] → slot ≡ None → length (held_in seen slots) ≡ length (held_in seen rest)
   length_same slots rest slot e s = ap length (same_slots slots rest slot e s)
 
+  -- ---- with the counts of refusals
+
+  pub out_faults : (n : ℕ) (slots : List (Option (ServerConnection S))) (out rest : List (ServerConnection S)) (k k' : Connected) (c : ServerConnection S)
+      → out ≡ rest ++ c ∷ [] → k' ≡ takes_back (held_of seen c) k → faults_in n (world seen slots out k) ≤ faults_in n (world seen slots rest k')
+  out_faults n slots out rest k k' c e back = omega (
+    arith,
+    ap (faults n) (ap (map (held_of seen)) e ∙ map-append (held_of seen) rest (c ∷ [])),
+    faults-append n (map (held_of seen) rest) (held_of seen c ∷ []),
+    ap (λ (x : Connected). faults n x.returned) back,
+    faults-append n k.returned (held_of seen c ∷ []),
+  )
+
+  pub slot_faults : (n : ℕ) (slots rest : List (Option (ServerConnection S))) (k k' : Connected) (slot : Option (ServerConnection S)) (c : ServerConnection S)
+      → slots ≡ rest ++ slot ∷ [] → slot ≡ Some c → k' ≡ takes_back (held_of seen c) k → faults_in n (world seen slots [] k) ≤ faults_in n (world seen rest [] k')
+  slot_faults n slots rest k k' slot c e s back = omega (
+    arith,
+    ap (faults n) (front_of slots rest slot (Some c) e s),
+    faults-append n (held_in seen rest) (held_of seen c ∷ []),
+    ap (λ (x : Connected). faults n x.returned) back,
+    faults-append n k.returned (held_of seen c ∷ []),
+  )
+
+  pub slot_empty_faults : (n : ℕ) (slots rest : List (Option (ServerConnection S))) (k : Connected) (slot : Option (ServerConnection S))
+      → slots ≡ rest ++ slot ∷ [] → slot ≡ None → faults_in n (world seen slots [] k) ≤ faults_in n (world seen rest [] k)
+  slot_empty_faults n slots rest k slot e s = omega (arith, ap (faults n) (same_slots slots rest slot e s))
+
   -- ---- with the logs
 
   pub out_known : (d : Dialect) (logs : Logs) (slots : List (Option (ServerConnection S))) (out rest : List (ServerConnection S)) (k k' : Connected) (c : ServerConnection S)
       → out ≡ rest ++ c ∷ [] → k' ≡ takes_back (held_of seen c) k
       → IsKnown d logs (world seen slots out k) → IsKnown d logs (world seen slots rest k')
   out_known d logs slots out rest k k' c e back known =
+      let by = Knowing.GoBy-front k.armed (map (held_of seen) rest) (held_of seen c ∷ []) (subst (GoBy k.armed) (ap (map (held_of seen)) e ∙ map-append (held_of seen) rest (c ∷ [])) known.ordered.out_by) in
       let parts = Knowing.Have-front d logs (map (held_of seen) rest) (held_of seen c ∷ []) (subst (Have d logs) (ap (map (held_of seen)) e ∙ map-append (held_of seen) rest (c ∷ [])) known.out) in
       record {
         accounts = out_closed slots out rest k k' c e back known.accounts;
         slots = known.slots;
         out = parts.0;
         returned = subst (Have d logs) (sym (ap (λ (x : Connected). x.returned) back)) (Knowing.Have-append d logs k.returned (held_of seen c ∷ []) known.returned parts.1);
+        ordered = Knowing.ordered_by k.armed k'.armed (held_in seen slots) (map (held_of seen) rest) k'.returned (ap (λ (x : Connected). x.armed) back) (record {
+          slots_by = known.ordered.slots_by;
+          out_by = by.0;
+          returned_by = subst (GoBy k.armed) (sym (ap (λ (x : Connected). x.returned) back)) (Knowing.GoBy-append k.armed k.returned (held_of seen c ∷ []) known.ordered.returned_by by.1);
+        });
         fresh = λ n l. known.fresh n (omega (arith, l, ap (λ (x : Connected). x.opened) back));
       }
 
@@ -70,12 +104,18 @@ module _ {S : Type 0} (seen : S → Seen) where
       → slots ≡ rest ++ slot ∷ [] → slot ≡ Some c → k' ≡ takes_back (held_of seen c) k
       → IsKnown d logs (world seen slots [] k) → IsKnown d logs (world seen rest [] k')
   slot_known d logs slots rest k k' slot c e s back known =
+      let by = Knowing.GoBy-front k.armed (held_in seen rest) (held_of seen c ∷ []) (subst (GoBy k.armed) (front_of slots rest slot (Some c) e s) known.ordered.slots_by) in
       let parts = Knowing.Have-front d logs (held_in seen rest) (held_of seen c ∷ []) (subst (Have d logs) (front_of slots rest slot (Some c) e s) known.slots) in
       record {
         accounts = slot_closed slots rest k k' slot c e s back known.accounts;
         slots = parts.0;
         out = tt;
         returned = subst (Have d logs) (sym (ap (λ (x : Connected). x.returned) back)) (Knowing.Have-append d logs k.returned (held_of seen c ∷ []) known.returned parts.1);
+        ordered = Knowing.ordered_by k.armed k'.armed (held_in seen rest) [] k'.returned (ap (λ (x : Connected). x.armed) back) (record {
+          slots_by = by.0;
+          out_by = tt;
+          returned_by = subst (GoBy k.armed) (sym (ap (λ (x : Connected). x.returned) back)) (Knowing.GoBy-append k.armed k.returned (held_of seen c ∷ []) known.ordered.returned_by by.1);
+        });
         fresh = λ n l. known.fresh n (omega (arith, l, ap (λ (x : Connected). x.opened) back));
       }
 
@@ -87,6 +127,11 @@ module _ {S : Type 0} (seen : S → Seen) where
     slots = subst (Have d logs) (same_slots slots rest slot e s) known.slots;
     out = tt;
     returned = known.returned;
+    ordered = record {
+      slots_by = subst (GoBy k.armed) (same_slots slots rest slot e s) known.ordered.slots_by;
+      out_by = tt;
+      returned_by = known.ordered.returned_by;
+    };
     fresh = known.fresh;
   }
 
@@ -98,4 +143,4 @@ module _ {S : Type 0} (seen : S → Seen) where
   pub all_back : (d : Dialect) (logs : Logs) (slots : List (Option (ServerConnection S))) (k : Connected) → slots ≡ [] → IsKnown d logs (world seen slots [] k) → IsBack d logs k
   all_back d logs slots k e known =
       let none = subst (λ (s : List (Option (ServerConnection S))). IsKnown d logs (world seen s [] k)) e known in
-      record { accounts = none.accounts; returned = none.returned; fresh = none.fresh }
+      record { accounts = none.accounts; returned = none.returned; ordered = none.ordered.returned_by; fresh = none.fresh }

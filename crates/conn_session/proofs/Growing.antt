@@ -20,6 +20,7 @@ use Rattle.conn_server.specs.Connected.{Connected, takes_back, IsNew, Opens, Not
 use Rattle.conn_server.specs.declared.connector.ConnectRefusal.TheVariants.{Refused}
 use Rattle.conn_result.specs.declared.error.ConnectionError.TheVariants.{BadConnection}
 use Rattle.conn_model.specs.declared.plan.PlanLine.{PlanLine}
+use Rattle.conn_model.specs.declared.plan.Target.{Target}
 use Rattle.conn_session.specs.Plays.{PlaysPut}
 use Rattle.std.specs.declared.alloc.AllocError.{AllocError}
 use Rattle.std.proofs.lemmas.List.Elements.{filter_map-append}
@@ -30,7 +31,8 @@ use Rattle.conn_reading.specs.Seats.{Seat, Context, is_kept, put_slot, entry_on,
 use Rattle.conn_reading.proofs.Appends.{HasRead, reads_acts}
 use Rattle.conn_reading.proofs.InPlace.{only, only_same, reads_in_place}
 use Rattle.conn_reading.proofs.Texts.{command_asks}
-use Rattle.conn_session.specs.Known.{ActsBy, Has, Have, IsKnown, Grows, progress}
+use Rattle.conn_server.specs.Ordered.{planned}
+use Rattle.conn_session.specs.Known.{ActsBy, Has, Have, GoesBy, GoBy, IsOrdered, IsKnown, Grows, progress}
 use Rattle.conn_session.specs.Worlds.{World, IsAccounted, Steps, seat_of, held_of, held_in, world, state_told}
 use Rattle.conn_session.specs.declared.connection.ServerConnection.{ServerConnection}
 use Rattle.conn_session.proofs.Knowing
@@ -97,7 +99,12 @@ module _ {S : Type 0} (seen : S → Seen) (d : Dialect) where
             let out_is : slice_set old.context.out at (seat_of seen c) ≡ new.context.out = sym (ap (map (seat_of seen)) f ∙ map-slice_set (seat_of seen) out at c) in (
               only m r.more,
               Knowing.known_grown d logs old new m at r.more (held_of seen b) (held_of seen c) held refl (has_more d logs (held_of seen b) (held_of seen c) r.more has honest by.acts.same r.is_log)
-                  refl (ap (map (held_of seen)) f ∙ map-slice_set (held_of seen) out at c) refl refl (accounts known.accounts) known,
+                  refl (ap (map (held_of seen)) f ∙ map-slice_set (held_of seen) out at c) refl refl (accounts known.accounts) (record {
+                    slots_by = known.ordered.slots_by;
+                    out_by = subst (GoBy k.armed) (sym (ap (map (held_of seen)) f ∙ map-slice_set (held_of seen) out at c)) (Knowing.GoBy-set k.armed (map (held_of seen) out) at (held_of seen c)
+                        (Knowing.goes_on_by k.armed (held_of seen b) (held_of seen c) by.acts.same.orders by.acts.same.number (Knowing.GoBy-at k.armed (map (held_of seen) out) at (held_of seen b) held known.ordered.out_by)) known.ordered.out_by);
+                    returned_by = known.ordered.returned_by;
+                  }) known,
               subst (λ (x : Entry). Reads reading (progress d old) (only m r.more) x (progress d new)) entry_is
                   (subst (λ (o : List Seat). Reads reading (progress d old) (only m r.more) (entry_on line (word_of act) (reply_as by.answer) (seat_of seen c)) (record (progress d old) { context = record (progress d old).context { out = o } })) out_is taken_so),
             );
@@ -130,6 +137,7 @@ record StillHave (d : Dialect) (logs : Logs) (w : World) : Type 0 where
   slots : Have d logs w.slots
   out : Have d logs w.out
   returned : Have d logs w.returned
+  ordered : IsOrdered w.plan w.slots w.out w.returned
 
 put_grows : {E : Type 0} (d : Dialect) (old new : World) (line n : ℕ) (entry : Entry) → Steps {E = E} old new line (Put n) (Ok entry) → new.context.opened ≡ old.context.opened → new.attempts ≡ old.attempts → new.plan ≡ old.plan
     → ((logs : Logs) → IsKnown d logs old → StillHave d logs new) → Grows d (λ p logs. reads p logs line (Put n)) old new entry
@@ -140,6 +148,7 @@ put_grows d old new line n entry steps o a f have =
       slots = h.slots;
       out = h.out;
       returned = h.returned;
+      ordered = h.ordered;
       fresh = λ m l. known.fresh m (omega (arith, o, l));
     })
     (λ logs. ap Some (put_reads line n (progress d old) logs entry new.context (place_of n old.context.out 0) steps.plays) ∙ ap (λ (p : Progress). Some (taken entry p logs)) (progress_at d new.context old.attempts new.attempts old.plan new.plan a f))
@@ -150,21 +159,28 @@ module _ {S : Type 0} (seen : S → Seen) (d : Dialect) where
       → Grows d (λ p logs. reads p logs line (Put n)) (world seen slots out k) (world seen slots out k) entry
   absent_put_grows slots out k line n entry place e =
       put_grows d (world seen slots out k) (world seen slots out k) line n entry (absent_put seen {E = AllocError} slots out k line n entry place e) refl refl refl
-      (λ logs known. record { slots = known.slots; out = known.out; returned = known.returned })
+      (λ logs known. record { slots = known.slots; out = known.out; returned = known.returned; ordered = known.ordered })
 
   -- a connection left its place for the end of the slots, or for the connector
   put_have : (slots slots' : List (Option (ServerConnection S))) (out out' : List (ServerConnection S)) (k k' : Connected) (n at : ℕ) (c : ServerConnection S) (slot : Option (ServerConnection S)) (done : List Seen)
       → Found seen out n at → c ≡ get_or out at c → ((logs : Logs) → Has d logs (held_of seen c) → Have d logs (held_in seen (slot ∷ [])) × Have d logs done)
-      → slots' ≡ slots ++ slot ∷ [] → out' ≡ remove out at → k'.returned ≡ k.returned ++ done
+      → ((plan : List PlanLine) → GoesBy plan (held_of seen c) → GoBy plan (held_in seen (slot ∷ [])) × GoBy plan done)
+      → slots' ≡ slots ++ slot ∷ [] → out' ≡ remove out at → k'.returned ≡ k.returned ++ done → k'.armed ≡ k.armed
       → (logs : Logs) → IsKnown d logs (world seen slots out k) → StillHave d logs (world seen slots' out' k')
-  put_have slots slots' out out' k k' n at c slot done found read parts e f r logs known =
+  put_have slots slots' out out' k k' n at c slot done found read parts goes e f r p logs known =
       let same : c ≡ found.0 = Places.read_get out at found.0 c found.1 read in
       let here : slice_get out at ≡ Some c = found.1 ∙ ap Some (sym same) in
+      let by = goes k.armed (Knowing.GoBy-at k.armed (map (held_of seen) out) at (held_of seen c) (get-map (held_of seen) out at c here) known.ordered.out_by) in
       let both = parts logs (Knowing.Have-at d logs (map (held_of seen) out) at (held_of seen c) (get-map (held_of seen) out at c here) known.out) in
       record {
         slots = subst (Have d logs) (sym (ap (held_in seen) e ∙ filter_map-append (option_map (held_of seen)) slots (slot ∷ []))) (Knowing.Have-append d logs (held_in seen slots) (held_in seen (slot ∷ [])) known.slots both.0);
         out = subst (Have d logs) (sym (ap (map (held_of seen)) f ∙ map-remove (held_of seen) out at)) (Knowing.Have-remove d logs (map (held_of seen) out) at known.out);
         returned = subst (Have d logs) (sym r) (Knowing.Have-append d logs k.returned done known.returned both.1);
+        ordered = Knowing.ordered_by k.armed k'.armed (held_in seen slots') (map (held_of seen) out') k'.returned p (record {
+          slots_by = subst (GoBy k.armed) (sym (ap (held_in seen) e ∙ filter_map-append (option_map (held_of seen)) slots (slot ∷ []))) (Knowing.GoBy-append k.armed (held_in seen slots) (held_in seen (slot ∷ [])) known.ordered.slots_by by.0);
+          out_by = subst (GoBy k.armed) (sym (ap (map (held_of seen)) f ∙ map-remove (held_of seen) out at)) (Knowing.GoBy-remove k.armed (map (held_of seen) out) at known.ordered.out_by);
+          returned_by = subst (GoBy k.armed) (sym r) (Knowing.GoBy-append k.armed k.returned done known.ordered.returned_by by.1);
+        });
       }
 
   pub put_kept_grows : (slots middle slots' : List (Option (ServerConnection S))) (out out' : List (ServerConnection S)) (k : Connected) (line n at : ℕ) (c : ServerConnection S) (entry : Entry)
@@ -174,7 +190,7 @@ module _ {S : Type 0} (seen : S → Seen) (d : Dialect) where
       → Grows d (λ p logs. reads p logs line (Put n)) (world seen slots out k) (world seen slots' out' k) entry
   put_kept_grows slots middle slots' out out' k line n at c entry found read kept m e f g =
       put_grows d (world seen slots out k) (world seen slots' out' k) line n entry (put_kept seen {E = AllocError} slots middle slots' out out' k line n at c entry found read kept m e f g) refl refl refl
-      (put_have slots slots' out out' k k n at c (Some c) [] found read (λ logs has. ((has, tt), tt)) (e ∙ ap (λ (x : List (Option (ServerConnection S))). x ++ Some c ∷ []) m) f (sym (append-nil k.returned)))
+      (put_have slots slots' out out' k k n at c (Some c) [] found read (λ logs has. ((has, tt), tt)) (λ plan by. ((by, tt), tt)) (e ∙ ap (λ (x : List (Option (ServerConnection S))). x ++ Some c ∷ []) m) f (sym (append-nil k.returned)) refl)
 
   pub put_closed_grows : (slots middle slots' : List (Option (ServerConnection S))) (out out' : List (ServerConnection S)) (k k' : Connected) (line n at : ℕ) (c : ServerConnection S) (entry : Entry)
       → Found seen out n at → c ≡ get_or out at c → false ≡ is_kept c.status
@@ -185,7 +201,7 @@ module _ {S : Type 0} (seen : S → Seen) (d : Dialect) where
   put_closed_grows slots middle slots' out out' k k' line n at c entry found read closed m e f back g =
       put_grows d (world seen slots out k) (world seen slots' out' k') line n entry (put_closed seen {E = AllocError} slots middle slots' out out' k k' line n at c entry found read closed m e f back g)
       (ap (λ (x : Connected). x.opened) back) (ap (λ (x : Connected). x.attempts) back) (ap (λ (x : Connected). x.armed) back)
-      (put_have slots slots' out out' k k' n at c None (held_of seen c ∷ []) found read (λ logs has. (tt, (has, tt))) (e ∙ ap (λ (x : List (Option (ServerConnection S))). x ++ None ∷ []) m) f (ap (λ (x : Connected). x.returned) back))
+      (put_have slots slots' out out' k k' n at c None (held_of seen c ∷ []) found read (λ logs has. (tt, (has, tt))) (λ plan by. (tt, (by, tt))) (e ∙ ap (λ (x : List (Option (ServerConnection S))). x ++ None ∷ []) m) f (ap (λ (x : Connected). x.returned) back) (ap (λ (x : Connected). x.armed) back))
 
   pub get_none_grows : (slots : List (Option (ServerConnection S))) (out : List (ServerConnection S)) (k : Connected) (line : ℕ) (entry : Entry)
       → slots ≡ [] → entry ≡ entry_without line words.Get None replies.NoneFree
@@ -208,11 +224,17 @@ module _ {S : Type 0} (seen : S → Seen) (d : Dialect) where
       Knowing.quiet d (λ p logs. reads p logs line Get) old new entry
       (λ logs known.
       let slots_have = subst (λ (x : List (Option (ServerConnection S))). Have d logs (held_in seen x)) front known.slots in
+      let slots_by = subst (λ (x : List (Option (ServerConnection S))). GoBy k.armed (held_in seen x)) front known.ordered.slots_by in
       record {
         accounts = steps.accounts known.accounts;
         slots = slots_have.1;
         out = subst (Have d logs) (sym (ap (map (held_of seen)) back ∙ map-append (held_of seen) out (c ∷ []))) (Knowing.Have-append d logs (map (held_of seen) out) (held_of seen c ∷ []) known.out (slots_have.0, tt));
         returned = known.returned;
+        ordered = record {
+          slots_by = slots_by.1;
+          out_by = subst (GoBy k.armed) (sym (ap (map (held_of seen)) back ∙ map-append (held_of seen) out (c ∷ []))) (Knowing.GoBy-append k.armed (map (held_of seen) out) (held_of seen c ∷ []) known.ordered.out_by (slots_by.0, tt));
+          returned_by = known.ordered.returned_by;
+        };
         fresh = known.fresh;
       })
       (λ logs. ap (λ (x : List (Option Seat)). Some (taken_get (progress d old) logs line x)) (ap (map (option_map (seat_of seen))) front)
@@ -240,9 +262,9 @@ module _ {S : Type 0} (seen : S → Seen) (d : Dialect) where
       → (logs : Logs) → reads (progress d old) logs line Get ≡ Some (taken_attempt (progress d old) logs line rest o)
   attempt_reads old line rest o e due logs = ap (λ (s : List (Option Seat)). Some (taken_get (progress d old) logs line s)) e ∙ ap (λ (x : Option ℤ). Some (taken_attempt (progress d old) logs line rest x)) due
 
-  pub get_opened_grows : (slots rest : List (Option (ServerConnection S))) (out middle out' : List (ServerConnection S)) (k k' : Connected) (line : ℕ) (c : ServerConnection S) (s : S) (slot : Option (ServerConnection S)) (entry : Entry)
+  pub get_opened_grows : {target : Target} (slots rest : List (Option (ServerConnection S))) (out middle out' : List (ServerConnection S)) (k k' : Connected) (line : ℕ) (c : ServerConnection S) (s : S) (slot : Option (ServerConnection S)) (entry : Entry)
       → slots ≡ slot ∷ rest → slot ≡ None → middle ≡ out → out' ≡ middle ++ c ∷ []
-      → c.server ≡ s → c.status ≡ no_depth → IsHonest (seen s) → Opens true seen d k k' s
+      → c.server ≡ s → c.status ≡ no_depth → IsHonest (seen s) → Opens true seen d target k k' s
       → entry ≡ entry_on line words.Get replies.Ok (seat_of seen c)
       → Grows d (λ p logs. reads p logs line Get) (world seen slots out k) (world seen rest out' k') entry
   get_opened_grows slots rest out middle out' k k' line c s slot entry e h m f same status honest opens g =
@@ -251,7 +273,8 @@ module _ {S : Type 0} (seen : S → Seen) (d : Dialect) where
       let r : k'.returned ≡ k.returned = ap (λ (x : Connected). x.returned) keeps in
       let is_honest : IsHonest (held_of seen c) = subst (λ (x : S). IsHonest (seen x)) (sym same) honest in
       let is_new : IsNew d k.opened (held_of seen c) = subst (λ (x : S). IsNew d k.opened (seen x)) (sym same) opens.is_new in
-      let steps = get_opened seen {E = AllocError} slots rest out middle out' k k' line c slot entry e h m f is_new.number_is status o r g in
+      let new_goes : GoesBy k.armed (held_of seen c) = λ item. subst (λ (x : S). (seen x).orders item ≡ planned k.armed (seen x).number item) (sym same) (opens.orders refl item ∙ ap (λ (m : ℕ). planned k.armed m item) (sym opens.is_new.number_is)) in
+      let steps = get_opened seen {E = AllocError} slots rest out middle out' k k' line c slot entry e h m f is_new.number_is status o r (ap (λ (x : Connected). x.failures) keeps) g in
       let front : slots ≡ None ∷ rest = e ∙ ap (λ (x : Option (ServerConnection S)). x ∷ rest) h in
       let back : out' ≡ out ++ c ∷ [] = f ∙ ap (λ (x : List (ServerConnection S)). x ++ c ∷ []) m in
       let old = world seen slots out k in
@@ -265,6 +288,11 @@ module _ {S : Type 0} (seen : S → Seen) (d : Dialect) where
         slots = subst (λ (x : List (Option (ServerConnection S))). Have d logs (held_in seen x)) front known.slots;
         out = subst (Have d logs) (sym (ap (map (held_of seen)) back ∙ map-append (held_of seen) out (c ∷ []))) (Knowing.Have-append d logs (map (held_of seen) out) (held_of seen c ∷ []) known.out (has.0, tt));
         returned = subst (Have d logs) (sym r) known.returned;
+        ordered = Knowing.ordered_by k.armed k'.armed (held_in seen rest) (map (held_of seen) out') k'.returned (ap (λ (x : Connected). x.armed) keeps) (record {
+          slots_by = subst (λ (x : List (Option (ServerConnection S))). GoBy k.armed (held_in seen x)) front known.ordered.slots_by;
+          out_by = subst (GoBy k.armed) (sym (ap (map (held_of seen)) back ∙ map-append (held_of seen) out (c ∷ []))) (Knowing.GoBy-append k.armed (map (held_of seen) out) (held_of seen c ∷ []) known.ordered.out_by (new_goes, tt));
+          returned_by = subst (GoBy k.armed) (sym r) known.ordered.returned_by;
+        });
         fresh = λ n l. known.fresh n (omega (arith, o, l));
       })
       (λ logs. attempt_reads old line (map (option_map (seat_of seen)) rest) None (ap (map (option_map (seat_of seen))) front) (opens.due refl) logs
@@ -273,15 +301,15 @@ module _ {S : Type 0} (seen : S → Seen) (d : Dialect) where
       (ap (λ (x : Seat). old.context.out ++ x ∷ []) (sym seat) ∙ sym (ap (map (seat_of seen)) back ∙ map-append (seat_of seen) out (c ∷ [])))
       (sym o) (sym (opens.counts refl)) (sym (ap (λ (x : Connected). x.armed) keeps))))
 
-  pub get_refused_grows : (slots rest slots' : List (Option (ServerConnection S))) (out out' : List (ServerConnection S)) (k k' : Connected) (line : ℕ) (slot : Option (ServerConnection S)) (code : ℤ) (entry : Entry)
+  pub get_refused_grows : (target : Target) (slots rest slots' : List (Option (ServerConnection S))) (out out' : List (ServerConnection S)) (k k' : Connected) (line : ℕ) (slot : Option (ServerConnection S)) (code : ℤ) (entry : Entry)
       → slots ≡ slot ∷ rest → slot ≡ None → out' ≡ out → slots' ≡ rest ++ None ∷ []
-      → NotOpened true k k' (Refused code)
+      → NotOpened true target k k' (Refused code)
       → entry ≡ entry_without line words.Get None (replies.Pool (BadConnection code))
       → Grows d (λ p logs. reads p logs line Get) (world seen slots out k) (world seen slots' out' k') entry
-  get_refused_grows slots rest slots' out out' k k' line slot code entry e h m f refused g =
+  get_refused_grows target slots rest slots' out out' k k' line slot code entry e h m f refused g =
       let o : k'.opened ≡ k.opened = ap (λ (x : Connected). x.opened) refused.0 in
       let r : k'.returned ≡ k.returned = ap (λ (x : Connected). x.returned) refused.0 in
-      let steps = get_refused seen {E = AllocError} slots rest slots' out out' k k' line slot code entry e h m f o r g in
+      let steps = get_refused seen {E = AllocError} slots rest slots' out out' k k' line slot code entry e h m f o r refused.1 refused.4 g in
       let front : slots ≡ None ∷ rest = e ∙ ap (λ (x : Option (ServerConnection S)). x ∷ rest) h in
       let old = world seen slots out k in
       let new = world seen slots' out' k' in
@@ -291,6 +319,11 @@ module _ {S : Type 0} (seen : S → Seen) (d : Dialect) where
         slots = subst (Have d logs) (sym (ap (held_in seen) f ∙ filter_map-append (option_map (held_of seen)) rest (None ∷ []) ∙ append-nil (held_in seen rest) ∙ sym (ap (held_in seen) front))) known.slots;
         out = subst (Have d logs) (sym (ap (map (held_of seen)) m)) known.out;
         returned = subst (Have d logs) (sym r) known.returned;
+        ordered = Knowing.ordered_by k.armed k'.armed (held_in seen slots') (map (held_of seen) out') k'.returned (ap (λ (x : Connected). x.armed) refused.0) (record {
+          slots_by = subst (GoBy k.armed) (sym (ap (held_in seen) f ∙ filter_map-append (option_map (held_of seen)) rest (None ∷ []) ∙ append-nil (held_in seen rest) ∙ sym (ap (held_in seen) front))) known.ordered.slots_by;
+          out_by = subst (GoBy k.armed) (sym (ap (map (held_of seen)) m)) known.ordered.out_by;
+          returned_by = subst (GoBy k.armed) (sym r) known.ordered.returned_by;
+        });
         fresh = λ n l. known.fresh n (omega (arith, o, l));
       })
       (λ logs. attempt_reads old line (map (option_map (seat_of seen)) rest) (Some code) (ap (map (option_map (seat_of seen))) front) (refused.3 refl) logs

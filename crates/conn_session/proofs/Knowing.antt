@@ -11,7 +11,10 @@ use Rattle.conn_report.specs.declared.entry.Entry.{Entry}
 use Rattle.conn_reading.specs.Answered.{Logs, Progress, Taken, taken}
 use Rattle.conn_reading.proofs.InPlace.{only, only_other}
 use Rattle.conn_session.specs.Accounts.{count}
-use Rattle.conn_session.specs.Known.{Has, Have, IsKnown, Grows, progress}
+use Rattle.conn_model.specs.declared.plan.Order.{Order}
+use Rattle.conn_model.specs.declared.plan.PlanLine.{PlanLine}
+use Rattle.conn_server.specs.Ordered.{planned}
+use Rattle.conn_session.specs.Known.{Has, Have, GoesBy, GoBy, IsOrdered, IsKnown, Grows, progress}
 use Rattle.conn_session.specs.Worlds.{World, IsAccounted, state_told}
 
 -- ---- what an honest server tells of its log
@@ -57,6 +60,38 @@ Have-remove d logs [] (suc i) h = tt
 Have-remove d logs (y ∷ ys) zero h = h.1
 Have-remove d logs (y ∷ ys) (suc i) h = (h.0, Have-remove d logs ys i h.1)
 
+-- ---- lists of servers that go by a plan
+
+pub GoBy-append : (plan : List PlanLine) (xs ys : List Seen) → GoBy plan xs → GoBy plan ys → GoBy plan (xs ++ ys)
+GoBy-append plan [] ys h k = k
+GoBy-append plan (x ∷ xs) ys h k = (h.0, GoBy-append plan xs ys h.1 k)
+
+pub GoBy-front : (plan : List PlanLine) (xs ys : List Seen) → GoBy plan (xs ++ ys) → GoBy plan xs × GoBy plan ys
+GoBy-front plan [] ys h = (tt, h)
+GoBy-front plan (x ∷ xs) ys h = let rest = GoBy-front plan xs ys h.1 in ((h.0, rest.0), rest.1)
+
+pub GoBy-at : (plan : List PlanLine) (xs : List Seen) (i : ℕ) (x : Seen) → slice_get xs i ≡ Some x → GoBy plan xs → GoesBy plan x
+GoBy-at plan [] i x e h = absurd (cc)
+GoBy-at plan (y ∷ ys) zero x e h = let same : y ≡ x = cc in subst (GoesBy plan) same h.0
+GoBy-at plan (y ∷ ys) (suc i) x e h = GoBy-at plan ys i x e h.1
+
+pub GoBy-remove : (plan : List PlanLine) (xs : List Seen) (i : ℕ) → GoBy plan xs → GoBy plan (remove xs i)
+GoBy-remove plan [] zero h = tt
+GoBy-remove plan [] (suc i) h = tt
+GoBy-remove plan (y ∷ ys) zero h = h.1
+GoBy-remove plan (y ∷ ys) (suc i) h = (h.0, GoBy-remove plan ys i h.1)
+
+pub GoBy-set : (plan : List PlanLine) (xs : List Seen) (i : ℕ) (new : Seen) → GoesBy plan new → GoBy plan xs → GoBy plan (slice_set xs i new)
+GoBy-set plan [] i new g h = tt
+GoBy-set plan (x ∷ xs) zero new g h = (g, h.1)
+GoBy-set plan (x ∷ xs) (suc i) new g h = (h.0, GoBy-set plan xs i new g h.1)
+
+pub goes_on_by : (plan : List PlanLine) (old new : Seen) → new.orders ≡ old.orders → new.number ≡ old.number → GoesBy plan old → GoesBy plan new
+goes_on_by plan old new e f g = λ item. ap (λ (o : ℕ → Option Order). o item) e ∙ g item ∙ ap (λ (n : ℕ). planned plan n item) (sym f)
+
+pub ordered_by : (plan plan' : List PlanLine) (slots out returned : List Seen) → plan' ≡ plan → IsOrdered plan slots out returned → IsOrdered plan' slots out returned
+ordered_by plan plan' slots out returned e h = subst (λ (p : List PlanLine). IsOrdered p slots out returned) (sym e) h
+
 -- ---- a log that grows
 
 abbrev pub added : Logs → ℕ → List Item → Logs
@@ -99,9 +134,9 @@ grown_have d logs n items (x ∷ xs) (suc i) old new e numbered has k h =
 
 -- the log of a connection that is out grew, and all else stayed
 pub known_grown : (d : Dialect) (logs : Logs) (old new : World) (n at : ℕ) (items : List Item) (s t : Seen) → slice_get old.out at ≡ Some s → s.number ≡ n → Has d (added logs n items) t
-    → new.slots ≡ old.slots → new.out ≡ slice_set old.out at t → new.returned ≡ old.returned → new.context.opened ≡ old.context.opened → IsAccounted new
+    → new.slots ≡ old.slots → new.out ≡ slice_set old.out at t → new.returned ≡ old.returned → new.context.opened ≡ old.context.opened → IsAccounted new → IsOrdered new.plan new.slots new.out new.returned
     → IsKnown d logs old → IsKnown d (added logs n items) new
-known_grown d logs old new n at items s t here numbered has e f g o a k =
+known_grown d logs old new n at items s t here numbered has e f g o a ordered k =
     let there = count_has n s old.out at here numbered in
     let below : n < old.context.opened = elim (cases_lt n old.context.opened) [ inl lt ↦ lt | inr le ↦ absurd (omega (arith, there, k.accounts.none n le)) ] in
     let total = k.accounts.once n below in
@@ -113,6 +148,7 @@ known_grown d logs old new n at items s t here numbered has e f g o a k =
       slots = subst (Have d (added logs n items)) (sym e) (others_have d logs n items old.slots no_slots k.slots);
       out = subst (Have d (added logs n items)) (sym f) (grown_have d logs n items old.out at s t here numbered has one k.out);
       returned = subst (Have d (added logs n items)) (sym g) (others_have d logs n items old.returned no_returned k.returned);
+      ordered = ordered;
       fresh = λ m l. ap (λ (x : List Item). x ++ only n items m) (k.fresh m (omega (arith, o, l))) ∙ only_other n m items (omega (arith, below, o, l));
     }
 
@@ -124,6 +160,7 @@ known_same d a b w e k = record {
   slots = Have-same d a b w.slots e k.slots;
   out = Have-same d a b w.out e k.out;
   returned = Have-same d a b w.returned e k.returned;
+  ordered = k.ordered;
   fresh = λ n l. sym (e n) ∙ k.fresh n l;
 }
 

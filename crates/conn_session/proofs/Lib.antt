@@ -10,3 +10,5 @@ pub mod Knowing
 pub mod Growing
 pub mod Ended
 pub mod Borne
+mod Aims
+pub mod Faults

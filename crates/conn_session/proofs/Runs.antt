@@ -7,6 +7,7 @@ use Rattle.conn_reading.specs.Answered.{reads}
 use Rattle.conn_reading.proofs.InOrder.{ReadsAll-none, ReadsAll-push}
 use Rattle.conn_session.specs.Known.{Grows, GrowsAll, progress}
 use Rattle.conn_session.proofs.Knowing
+use Rattle.conn_session.proofs.Faults.{later-refl, later-trans, all_caused}
 use Rattle.conn_session.specs.Plays.{Plays, PlaysAll}
 use Rattle.conn_reading.specs.Seats.{Context}
 use Rattle.conn_session.specs.Worlds.{World, Steps, Runs}
@@ -19,12 +20,14 @@ PlaysAll-push a b c (d ∷ ds) [] command entry so_far more = absurd so_far
 PlaysAll-push a b c (d ∷ ds) (e ∷ es) command entry so_far more = (so_far.0, so_far.1, PlaysAll-push so_far.0 b c ds es command entry so_far.2 more)
 
 pub Runs-none : (w : World) → Runs w w [] []
-Runs-none w = record { accounts = λ a. a; plays = refl }
+Runs-none w = record { accounts = λ a. a; plays = refl; counts = later-refl w; caused = tt }
 
 pub Runs-push : {E : Type 0} (start old new : World) (commands : List Command) (command : Command) (entries : List Entry) (entry : Entry) → Runs start old commands entries → Steps {E = E} old new command.line command.act (Ok entry) → Runs start new (commands ++ command ∷ []) (entries ++ entry ∷ [])
 Runs-push start old new commands command entries entry r s = record {
   accounts = λ a. s.accounts (r.accounts a);
   plays = PlaysAll-push start.context old.context new.context commands entries command entry r.plays s.plays;
+  counts = later-trans start old new r.counts s.causes.counts;
+  caused = all_caused start old new entries entry r.counts r.caused s.causes;
 }
 
 -- ---- over honest servers

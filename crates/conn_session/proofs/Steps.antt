@@ -1,10 +1,11 @@
 -- Each command, on the lists of a session.
-use Rattle.std.proofs.Common.{◌≡◌, ℕ, ◌+◌, ◌<◌, Bool, true, false, cond, List, [], ◌∷◌, ◌++◌, length, map, Option, Some, None, Ok, Err, refl, sym, ap, subst, ◌∙◌, arith, inl, inr, get_or, append-nil}
+use Rattle.std.proofs.Common.{◌≡◌, ℕ, ◌+◌, ◌<◌, ◌≤◌, Bool, true, false, cond, List, [], ◌∷◌, ◌++◌, length, map, Option, Some, None, Ok, Err, refl, sym, ap, subst, ◌∙◌, arith, inl, inr, get_or, append-nil}
 use Rattle.std.specs.Prelude.{slice_get, slice_set, remove, ℤ}
 use Rattle.std.specs.Option.{option_map}
 use Rattle.std.proofs.lemmas.List.{map-append, length-append}
 use Rattle.std.proofs.lemmas.List.Edits.{length-remove}
 use Rattle.std.proofs.lemmas.List.Elements.{filter_map-append}
+use Rattle.conn_result.specs.Causes.{Rose}
 use Rattle.conn_result.specs.declared.error.ConnectionError.TheVariants.{BadConnection}
 use Rattle.conn_model.specs.Seen.{Seen}
 use Rattle.conn_manager.specs.Statuses.{no_depth}
@@ -15,13 +16,14 @@ use Rattle.conn_script.specs.declared.command.Act.{Act}
 use Rattle.conn_script.specs.declared.command.Act.TheVariants.{Get, Put}
 use Rattle.conn_script.specs.declared.command.Word.TheVariants as words
 use Rattle.conn_server.specs.Connected.{Connected, takes_back}
-use Rattle.conn_session.specs.Accounts.{Accounts, count}
-use Rattle.conn_session.specs.Plays.{PlaysGet, PlaysPut, PlaysOn, Opens, NotOpened, Answers, IsAnswer}
+use Rattle.conn_session.specs.Accounts.{Accounts, count, faults}
+use Rattle.conn_session.specs.Plays.{PlaysGet, PlaysPut, PlaysOn, Opens, NotOpened, Answers, IsAnswer, IsRefused, IsUnopened}
 use Rattle.conn_reading.specs.Seats.{Seat, Context, entry_on, entry_without, place_of, is_kept, put_reply, put_slot, word_of}
 use Rattle.conn_session.specs.Worlds.{Steps, StepsOn, seat_of, held_of, held_in, world}
 use Rattle.conn_session.specs.declared.connection.ServerConnection.{ServerConnection}
 use Rattle.conn_session.proofs.Lists.{map-remove, map-slice_set, get-map}
 use Rattle.conn_session.proofs.Moves
+use Rattle.conn_session.proofs.Faults
 use Rattle.conn_session.proofs.Places
 
 -- accounts of lists that are equal
@@ -44,17 +46,19 @@ module _ {S : Type 0} (seen : S → Seen) where
   absent act slots out k line n entry place e = record {
     accounts = λ a. a;
     plays = subst (λ (p : Option (ℕ × Seat)). PlaysOn line act n (world seen slots out k).context entry (world seen slots out k).context p) (sym place) (e, refl);
+    causes = let w = world seen slots out k in Faults.no_cause w w entry replies.NotOut (Faults.later-refl w) (ap (λ (x : Entry). x.reply) e) (λ h. h) (λ h. h);
   }
 
   -- a connection left its place among those that are out, for a slot or for the connector
   put_steps : {E : Type 0} (slots slots' : List (Option (ServerConnection S))) (out out' : List (ServerConnection S)) (k k' : Connected) (line n at : ℕ) (c : ServerConnection S) (slot : Option (ServerConnection S)) (done : List Seen) (entry : Entry)
       → Found out n at → c ≡ get_or out at c
       → ((m : ℕ) → count m (held_in seen (slot ∷ [])) + count m done ≡ count m (held_of seen c ∷ []))
+      → ((m : ℕ) → faults m (held_in seen (slot ∷ [])) + faults m done ≡ faults m (held_of seen c ∷ []))
       → option_map (seat_of seen) slot ≡ put_slot (seat_of seen c)
-      → slots' ≡ slots ++ slot ∷ [] → out' ≡ remove out at → k'.opened ≡ k.opened → k'.returned ≡ k.returned ++ done
+      → slots' ≡ slots ++ slot ∷ [] → out' ≡ remove out at → k'.opened ≡ k.opened → k'.returned ≡ k.returned ++ done → k'.failures ≡ k.failures
       → entry ≡ entry_on line words.Put (put_reply c.status) (seat_of seen c)
       → Steps {E = E} (world seen slots out k) (world seen slots' out' k') line (Put n) (Ok entry)
-  put_steps slots slots' out out' k k' line n at c slot done entry found read counts view e f o r g =
+  put_steps slots slots' out out' k k' line n at c slot done entry found read counts weights view e f o r same_failures g =
       let same : c ≡ found.0 = Places.read_get out at found.0 c found.1 read in
       let here : slice_get out at ≡ Some c = found.1 ∙ ap Some (sym same) in
       let place : place_of n (map (seat_of seen) out) 0 ≡ Some (at, seat_of seen c) = found.2 ∙ ap (λ (x : ServerConnection S). Some (at, seat_of seen x)) (sym same) in
@@ -71,6 +75,19 @@ module _ {S : Type 0} (seen : S → Seen) where
               (ap (map (option_map (seat_of seen))) e ∙ map-append (option_map (seat_of seen)) slots (slot ∷ []) ∙ ap (λ (x : Option Seat). map (option_map (seat_of seen)) slots ++ x ∷ []) view)
               (ap (map (seat_of seen)) f ∙ map-remove (seat_of seen) out at) o,
         );
+        causes = Faults.no_cause (world seen slots out k) (world seen slots' out' k') entry (put_reply c.status) (record {
+          later = omega (arith, same_failures);
+          faults_later = λ m. omega (
+            arith,
+            weights m,
+            ap (faults m) (ap (held_in seen) e ∙ filter_map-append (option_map (held_of seen)) slots (slot ∷ [])),
+            Faults.faults-append m (held_in seen slots) (held_in seen (slot ∷ [])),
+            ap (faults m) (ap (map (held_of seen)) f ∙ map-remove (held_of seen) out at),
+            Faults.faults-remove m (map (held_of seen) out) at (held_of seen c) (get-map (held_of seen) out at c here),
+            ap (faults m) r,
+            Faults.faults-append m k.returned done,
+          );
+        }) (ap (λ (x : Entry). x.reply) g) (Faults.put_not_refused c.status) (Faults.put_not_unopened c.status);
       }
 
   kept_view : (c : ServerConnection S) → true ≡ is_kept c.status → option_map (seat_of seen) (Some c) ≡ put_slot (seat_of seen c)
@@ -85,8 +102,8 @@ module _ {S : Type 0} (seen : S → Seen) where
       → entry ≡ entry_on line words.Put replies.Kept (seat_of seen c)
       → Steps {E = E} (world seen slots out k) (world seen slots' out' k) line (Put n) (Ok entry)
   put_kept slots middle slots' out out' k line n at c entry found read kept m e f g =
-      put_steps slots slots' out out' k k line n at c (Some c) [] entry found read (λ m. omega arith) (kept_view c kept)
-      (e ∙ ap (λ (x : List (Option (ServerConnection S))). x ++ Some c ∷ []) m) f refl (sym (append-nil k.returned))
+      put_steps slots slots' out out' k k line n at c (Some c) [] entry found read (λ m. omega arith) (λ m. omega arith) (kept_view c kept)
+      (e ∙ ap (λ (x : List (Option (ServerConnection S))). x ++ Some c ∷ []) m) f refl (sym (append-nil k.returned)) refl
       (g ∙ ap (λ (b : Bool). entry_on line words.Put (cond b replies.Kept replies.Closed) (seat_of seen c)) kept)
 
   pub put_closed : {E : Type 0} (slots middle slots' : List (Option (ServerConnection S))) (out out' : List (ServerConnection S)) (k k' : Connected) (line n at : ℕ) (c : ServerConnection S) (entry : Entry)
@@ -96,8 +113,8 @@ module _ {S : Type 0} (seen : S → Seen) where
       → entry ≡ entry_on line words.Put replies.Closed (seat_of seen c)
       → Steps {E = E} (world seen slots out k) (world seen slots' out' k') line (Put n) (Ok entry)
   put_closed slots middle slots' out out' k k' line n at c entry found read closed m e f back g =
-      put_steps slots slots' out out' k k' line n at c None (held_of seen c ∷ []) entry found read (λ m. omega arith) (closed_view c closed)
-      (e ∙ ap (λ (x : List (Option (ServerConnection S))). x ++ None ∷ []) m) f (ap (λ (x : Connected). x.opened) back) (ap (λ (x : Connected). x.returned) back)
+      put_steps slots slots' out out' k k' line n at c None (held_of seen c ∷ []) entry found read (λ m. omega arith) (λ m. omega arith) (closed_view c closed)
+      (e ∙ ap (λ (x : List (Option (ServerConnection S))). x ++ None ∷ []) m) f (ap (λ (x : Connected). x.opened) back) (ap (λ (x : Connected). x.returned) back) (ap (λ (x : Connected). x.failures) back)
       (g ∙ ap (λ (b : Bool). entry_on line words.Put (cond b replies.Kept replies.Closed) (seat_of seen c)) closed)
 
   pub get_none : {E : Type 0} (slots : List (Option (ServerConnection S))) (out : List (ServerConnection S)) (k : Connected) (line : ℕ) (entry : Entry)
@@ -108,6 +125,7 @@ module _ {S : Type 0} (seen : S → Seen) where
       record {
         accounts = λ a. a;
         plays = subst (λ (s : List (Option Seat)). PlaysGet line c entry c s) (sym (ap (map (option_map (seat_of seen))) e)) (g, refl);
+        causes = let w = world seen slots out k in Faults.no_cause w w entry replies.NoneFree (Faults.later-refl w) (ap (λ (x : Entry). x.reply) g) (λ h. h) (λ h. h);
       }
 
   pub get_kept : {E : Type 0} (slots rest : List (Option (ServerConnection S))) (out middle out' : List (ServerConnection S)) (k : Connected) (line : ℕ) (c : ServerConnection S) (slot : Option (ServerConnection S)) (entry : Entry)
@@ -128,14 +146,23 @@ module _ {S : Type 0} (seen : S → Seen) where
           g,
           context_at _ _ _ _ _ _ refl (ap (map (seat_of seen)) back ∙ map-append (seat_of seen) out (c ∷ [])) refl,
         );
+        causes = Faults.no_cause (world seen slots out k) (world seen rest out' k) entry replies.Ok (record {
+          later = omega arith;
+          faults_later = λ m. omega (
+            arith,
+            ap (faults m) (ap (held_in seen) front),
+            ap (faults m) (ap (map (held_of seen)) back ∙ map-append (held_of seen) out (c ∷ [])),
+            Faults.faults-append m (map (held_of seen) out) (held_of seen c ∷ []),
+          );
+        }) (ap (λ (x : Entry). x.reply) g) (λ h. h) (λ h. h);
       }
 
   pub get_opened : {E : Type 0} (slots rest : List (Option (ServerConnection S))) (out middle out' : List (ServerConnection S)) (k k' : Connected) (line : ℕ) (c : ServerConnection S) (slot : Option (ServerConnection S)) (entry : Entry)
       → slots ≡ slot ∷ rest → slot ≡ None → middle ≡ out → out' ≡ middle ++ c ∷ []
-      → (held_of seen c).number ≡ k.opened → c.status ≡ no_depth → k'.opened ≡ k.opened + 1 → k'.returned ≡ k.returned
+      → (held_of seen c).number ≡ k.opened → c.status ≡ no_depth → k'.opened ≡ k.opened + 1 → k'.returned ≡ k.returned → k'.failures ≡ k.failures
       → entry ≡ entry_on line words.Get replies.Ok (seat_of seen c)
       → Steps {E = E} (world seen slots out k) (world seen rest out' k') line Get (Ok entry)
-  get_opened slots rest out middle out' k k' line c slot entry e s m f numbered status o r g =
+  get_opened slots rest out middle out' k k' line c slot entry e s m f numbered status o r same_failures g =
       let front : slots ≡ None ∷ rest = e ∙ ap (λ (x : Option (ServerConnection S)). x ∷ rest) s in
       let back : out' ≡ out ++ c ∷ [] = f ∙ ap (λ (x : List (ServerConnection S)). x ++ c ∷ []) m in
       let old = (world seen slots out k).context in
@@ -153,14 +180,24 @@ module _ {S : Type 0} (seen : S → Seen) where
             (Moves.open_moves k.opened (held_in seen rest) (map (held_of seen) out) k.returned (held_of seen c) numbered
             (accounts_at k.opened k.opened (held_in seen slots) (held_in seen (None ∷ rest)) (map (held_of seen) out) (map (held_of seen) out) k.returned k.returned refl (sym (ap (held_in seen) front)) refl refl a));
         plays = subst (λ (x : List (Option Seat)). PlaysGet line old entry new x) (sym (ap (map (option_map (seat_of seen))) front)) (inl opens);
+        causes = Faults.no_cause (world seen slots out k) (world seen rest out' k') entry replies.Ok (record {
+          later = omega (arith, same_failures);
+          faults_later = λ m. omega (
+            arith,
+            ap (faults m) (ap (held_in seen) front),
+            ap (faults m) (ap (map (held_of seen)) back ∙ map-append (held_of seen) out (c ∷ [])),
+            Faults.faults-append m (map (held_of seen) out) (held_of seen c ∷ []),
+            ap (faults m) r,
+          );
+        }) (ap (λ (x : Entry). x.reply) g) (λ h. h) (λ h. h);
       }
 
   pub get_refused : {E : Type 0} (slots rest slots' : List (Option (ServerConnection S))) (out out' : List (ServerConnection S)) (k k' : Connected) (line : ℕ) (slot : Option (ServerConnection S)) (code : ℤ) (entry : Entry)
       → slots ≡ slot ∷ rest → slot ≡ None → out' ≡ out → slots' ≡ rest ++ None ∷ []
-      → k'.opened ≡ k.opened → k'.returned ≡ k.returned
+      → k'.opened ≡ k.opened → k'.returned ≡ k.returned → Rose k.failures k'.failures → k.failures ≤ k'.failures
       → entry ≡ entry_without line words.Get None (replies.Pool (BadConnection code))
       → Steps {E = E} (world seen slots out k) (world seen slots' out' k') line Get (Ok entry)
-  get_refused slots rest slots' out out' k k' line slot code entry e s m f o r g =
+  get_refused slots rest slots' out out' k k' line slot code entry e s m f o r rose later g =
       let front : slots ≡ None ∷ rest = e ∙ ap (λ (x : Option (ServerConnection S)). x ∷ rest) s in
       let old = (world seen slots out k).context in
       let new = (world seen slots' out' k').context in
@@ -173,14 +210,30 @@ module _ {S : Type 0} (seen : S → Seen) where
         accounts = λ a. accounts_at k.opened k'.opened (held_in seen slots) (held_in seen slots') (map (held_of seen) out) (map (held_of seen) out') k.returned k'.returned o
             (ap (held_in seen) f ∙ filter_map-append (option_map (held_of seen)) rest (None ∷ []) ∙ append-nil (held_in seen rest) ∙ sym (ap (held_in seen) front)) (ap (map (held_of seen)) m) r a;
         plays = subst (λ (x : List (Option Seat)). PlaysGet line old entry new x) (sym (ap (map (option_map (seat_of seen))) front)) (inr closed);
+        causes = record {
+          counts = record {
+            later = later;
+            faults_later = λ n. omega (
+              arith,
+              ap (faults n) (ap (held_in seen) f ∙ filter_map-append (option_map (held_of seen)) rest (None ∷ []) ∙ append-nil (held_in seen rest) ∙ sym (ap (held_in seen) front)),
+              ap (faults n) (ap (map (held_of seen)) m),
+              ap (faults n) r,
+            );
+          };
+          caused = record {
+            refused = λ h. let g0 : ⊥ = subst (λ (x : Entry). IsRefused x.reply) g h in absurd g0;
+            unopened = λ h. rose;
+          };
+        };
       }
 
   -- a call on a connection in its place
   pub called : {E : Type 0} (act : Act) (slots : List (Option (ServerConnection S))) (out out' : List (ServerConnection S)) (k : Connected) (line n at : ℕ) (c d : ServerConnection S) (reply : Reply) (entry : Entry)
       → Found out n at → c ≡ get_or out at c → out' ≡ slice_set out at d
-      → (held_of seen d).number ≡ (held_of seen c).number → IsAnswer act reply → entry ≡ entry_on line (word_of act) reply (seat_of seen d)
+      → (held_of seen d).number ≡ (held_of seen c).number → IsAnswer act reply
+      → (held_of seen c).failures ≤ (held_of seen d).failures → (IsRefused reply → Rose (held_of seen c).failures (held_of seen d).failures) → entry ≡ entry_on line (word_of act) reply (seat_of seen d)
       → StepsOn {E = E} act n (world seen slots out k) (world seen slots out' k) line (Ok entry)
-  called act slots out out' k line n at c d reply entry found read f numbered answer g =
+  called act slots out out' k line n at c d reply entry found read f numbered answer later refused g =
       let same : c ≡ found.0 = Places.read_get out at found.0 c found.1 read in
       let here : slice_get out at ≡ Some c = found.1 ∙ ap Some (sym same) in
       let place : place_of n (map (seat_of seen) out) 0 ≡ Some (at, seat_of seen c) = found.2 ∙ ap (λ (x : ServerConnection S). Some (at, seat_of seen x)) (sym same) in
@@ -199,6 +252,29 @@ module _ {S : Type 0} (seen : S → Seen) where
             (ap (map (held_of seen)) f ∙ map-slice_set (held_of seen) out at d) refl
             (Moves.set_moves k.opened at (held_in seen slots) (map (held_of seen) out) k.returned (held_of seen c) (held_of seen d) (get-map (held_of seen) out at c here) numbered a);
         plays = subst (λ (p : Option (ℕ × Seat)). PlaysOn line act n old entry new p) (sym place) answers;
+        causes = record {
+          counts = record {
+            later = omega arith;
+            faults_later = λ m. omega (
+              arith,
+              ap (faults m) (ap (map (held_of seen)) f ∙ map-slice_set (held_of seen) out at d),
+              Faults.faults-set m (map (held_of seen) out) at (held_of seen c) (held_of seen d) (get-map (held_of seen) out at c here) numbered later,
+            );
+          };
+          caused = record {
+            refused = λ h. (
+              (held_of seen d).number,
+              ap (λ (x : Entry). x.connection) g,
+              omega (
+                arith,
+                refused (subst (λ (x : Entry). IsRefused x.reply) g h),
+                ap (faults (held_of seen d).number) (ap (map (held_of seen)) f ∙ map-slice_set (held_of seen) out at d),
+                Faults.faults-there (map (held_of seen) out) at (held_of seen c) (held_of seen d) (get-map (held_of seen) out at c here),
+              ),
+            );
+            unopened = λ h. absurd (Faults.answers_open act reply answer (subst (λ (x : Entry). IsUnopened x.reply) g h));
+          };
+        };
       }
 
   -- the same, where the call gave up
@@ -213,6 +289,7 @@ module _ {S : Type 0} (seen : S → Seen) where
             (ap (map (held_of seen)) f ∙ map-slice_set (held_of seen) out at d) refl
             (Moves.set_moves k.opened at (held_in seen slots) (map (held_of seen) out) k.returned (held_of seen c) (held_of seen d) (get-map (held_of seen) out at c here) numbered a);
         plays = tt;
+        causes = tt;
       }
 
   -- sizes
@@ -257,4 +334,5 @@ module _ {S : Type 0} (seen : S → Seen) where
       record {
         accounts = λ a. a;
         plays = subst (λ (p : Option (ℕ × Seat)). PlaysPut line n c entry c p) (sym place) (e, refl);
+        causes = let w = world seen slots out k in Faults.no_cause w w entry replies.NotOut (Faults.later-refl w) (ap (λ (x : Entry). x.reply) e) (λ h. h) (λ h. h);
       }

@@ -1,5 +1,5 @@
 -- From the bytes of a source to the answer, and back.
-use Rattle.std.proofs.Common.{◌≡◌, ℕ, ◌<◌, List, [], ◌∷◌, length, take, map, Option, Some, None, Result, Ok, Err, sym, ap, ◌∙◌, arith, inl, inr, Bool, true, get_or}
+use Rattle.std.proofs.Common.{◌≡◌, ℕ, ◌<◌, ◌≤◌, List, [], ◌∷◌, length, take, map, Option, Some, None, Result, Ok, Err, sym, ap, ◌∙◌, arith, inl, inr, Bool, true, get_or}
 use Rattle.std.specs.Str.{bytes_eq}
 use Rattle.std.proofs.lemmas.Slice.Eq.{bytes_eq-Decides}
 use Rattle.std.specs.Prelude.{IfSome, MatchResult}
@@ -33,13 +33,17 @@ script_of-take bs = elim (cases_lt 16777216 (length bs)) [
 ]
 
 pub answers_left : (honest tells : Bool) (left : Option (List ℕ)) (bytes : List ℕ) (old new : Connected) (status : ℕ) (text : List ℕ) → IfSome left (λ l. bytes ≡ take 16777217 l) → Answers honest tells (script_of bytes) old new status text → AnswersLeft honest tells left old new status text
-answers_left honest tells None bytes old new status text e h = tt
+answers_left honest tells None bytes old new status text e h = (bytes, h)
 answers_left honest tells (Some l) bytes old new status text e h = rw (ap script_of e ∙ script_of-take l) at h
 
 status_of : (honest tells : Bool) (read : Result Script ℕ) (old new : Connected) (status : ℕ) (text : List ℕ) → Answers honest tells read old new status text → MatchResult read (λ _. status ≡ 0) (λ _. status ≡ 1)
 status_of honest tells (Ok script) old new status text h = h.0
 status_of honest tells (Err n) old new status text h = h.0
 
+zero_or_one : (read : Result Script ℕ) (status : ℕ) → MatchResult read (λ _. status ≡ 0) (λ _. status ≡ 1) → status ≤ 1
+zero_or_one (Ok script) status h = omega arith
+zero_or_one (Err n) status h = omega arith
+
 pub is_complete : (honest tells : Bool) (left : Option (List ℕ)) (old new : Connected) (status : ℕ) (text : List ℕ) → AnswersLeft honest tells left old new status text → IsComplete left status
-is_complete honest tells None old new status text h = tt
+is_complete honest tells None old new status text h = inr (zero_or_one (script_of h.0) status (status_of honest tells (script_of h.0) old new status text h.1))
 is_complete honest tells (Some bytes) old new status text h = inr (status_of honest tells (script_of bytes) old new status text h)

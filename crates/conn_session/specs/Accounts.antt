@@ -11,6 +11,15 @@ abbrev pub count : ℕ → List Seen → ℕ
 count n [] = 0
 count n (s ∷ others) = (if s.number == n then 1 else 0) + count n others
 
+-- the refusals that a server counted, where it has the number
+abbrev pub weight : ℕ → Seen → ℕ
+weight n s = if s.number == n then s.failures else 0
+
+-- the refusals that these counted, of those that have the number
+abbrev pub faults : ℕ → List Seen → ℕ
+faults n [] = 0
+faults n (s ∷ others) = weight n s + faults n others
+
 -- of the servers below `opened` each is in one of these, once, and no other server is
 pub record Accounts (opened : ℕ) (slots out returned : List Seen) : Type 0 where
   pub once : (n : ℕ) → n < opened → count n slots + count n out + count n returned ≡ 1

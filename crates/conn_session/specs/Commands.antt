@@ -1,10 +1,13 @@
 -- What the whole call answers.
-use Rattle.std.specs.Prelude.{ℕ, ◌≡◌, ◌⊎◌, Bool, true, false, List, [], ◌∷◌, map, Option, Some, None, Result, Ok, Err, codes, string_bytes, MatchResult}
-use Rattle.std.specs.List.{list_any}
-use Rattle.std.specs.Option.{option_map}
+use Rattle.std.specs.Prelude.{ℕ, ◌≡◌, ◌<◌, ◌≤◌, ◌⊎◌, Bool, true, false, List, [], ◌∷◌, map, slice_get, Option, Some, None, Result, Ok, Err, codes, string_bytes, MatchResult}
+use Rattle.std.specs.List.{AllByRecursion, list_any}
+use Rattle.std.specs.Option.{option_map, option_and_then}
 use Rattle.std.specs.declared.string.String.{String}
 use Rattle.std.specs.declared.alloc.Global.{Global}
-use Rattle.conn_model.specs.States.{state_of, kept}
+use Rattle.conn_model.specs.Obeyed.{Obeys}
+use Rattle.conn_model.specs.States.{State, Writes, state_of, kept}
+use Rattle.conn_model.specs.declared.item.Dialect.{Dialect}
+use Rattle.conn_model.specs.declared.item.Item.{Item}
 use Rattle.conn_model.specs.declared.item.Dialect.TheVariants.{Sqlite}
 use Rattle.conn_reading.specs.Answered.{answered, servers_opened}
 use Rattle.conn_reading.specs.Folds.{refuses_transaction}
@@ -16,14 +19,33 @@ use Rattle.conn_script.specs.Grammar.{script_of}
 use Rattle.conn_script.specs.declared.command.Script.{Script}
 use Rattle.conn_script.specs.declared.command.SessionError.{SessionError}
 use Rattle.conn_script.specs.declared.command.SessionError.TheVariants.{BadScript, OutOfMemory}
-use Rattle.conn_server.specs.Connected.{Connected}
-use Rattle.conn_session.specs.Accounts.{logs_of, servers_of}
+use Rattle.conn_model.specs.declared.plan.Target.TheVariants.{Url}
+use Rattle.conn_server.specs.Connected.{Connected, AreAt}
+use Rattle.conn_server.specs.Ordered.{planned}
+use Rattle.conn_session.specs.Accounts.{faults, logs_of, servers_of}
 use Rattle.conn_session.specs.Plays.{IsPlayed}
+use Rattle.conn_session.specs.Worlds.{IsCausedBy}
 
--- the logs of the servers that are back answer these entries to the script, and say how many servers were opened
+-- the logs of the servers that are back answer these entries to the script, and say how many servers were opened; each obeys
+-- what the script's plan refuses of its server
 pub record IsAnswered (script : Script) (k : Connected) (entries : List Entry) : Type 0 where
   pub entries_are : answered script (logs_of k.returned) ≡ Some entries
   pub opened : servers_opened script (logs_of k.returned) ≡ Some k.opened
+  pub obeys : (n : ℕ) → n < k.opened → Obeys script.dialect (planned script.plan n) (logs_of k.returned n)
+
+-- the log is lawful, and what is told of its server are the writes that it keeps
+pub record TellsKept (d : Dialect) (log : List Item) (told : Option Writes) : Type 0 where
+  pub state : State
+  pub lawful : state_of d log ≡ Some state
+  pub told_is : told ≡ Some (kept state)
+
+-- of each server that was opened its log's kept writes are told
+abbrev pub EachTold : Dialect → Connected → (ℕ → Option Writes) → Type 0
+EachTold d k told = (n : ℕ) → n < k.opened → TellsKept d (logs_of k.returned n) (told n)
+
+-- what is told of the server of a number
+abbrev pub told_at : List (Option Writes) → ℕ → Option Writes
+told_at servers n = option_and_then (λ (writes : Option Writes). writes) (slice_get servers n)
 
 -- the logs of the servers that are back bear the entries out: each status up to its mark, each depth over its server, no depth
 -- where `get` hands out; under the premises of the fold a server held, after each entry of its connection, the stack of the
@@ -44,13 +66,17 @@ pub record IsParsed (script : Script) : Type 0 where
   pub parses : script_of bytes ≡ Ok script
 
 -- a transcript of a script over the servers that were taken back: its commands gave the entries, and the servers kept the
--- writes; an honest connector was armed with the script's plan, and its servers' logs answer the entries to the script and
--- bear them out
-pub record Transcribes (honest tells : Bool) (script : Script) (k : Connected) (t : Transcript) : Type 0 where
+-- writes; a refusal of a server or of the connector is in an entry only where it was counted; each attempt was at the script's
+-- URL, where the connector tells its targets; an honest connector was armed with the script's plan, and its servers' logs answer
+-- the entries to the script and bear them out, and keep the writes that are told, none of them untold
+pub record Transcribes (honest tells : Bool) (script : Script) (old k : Connected) (t : Transcript) : Type 0 where
   pub entries : IsPlayed script.commands t.entries
   pub servers : t.servers ≡ servers_of tells k.opened k.returned
+  pub caused : AllByRecursion (IsCausedBy (λ n. faults n k.returned) old.failures k.failures) t.entries
+  pub aimed : AreAt (Url script.url) old.targets → AreAt (Url script.url) k.targets
   pub armed : honest ≡ true → k.armed ≡ script.plan
   pub answered : honest ≡ true → IsAnswered script k t.entries
+  pub kept : honest ≡ true → EachTold script.dialect k (told_at t.servers)
   pub borne_out : honest ≡ true → AreBorneOut script k t.entries
 
 -- a bad script runs nothing; the line isn't told yet
@@ -60,7 +86,7 @@ pub record IsBad (old new : Connected) (error : SessionError) : Type 0 where
 
 -- a session of these bytes, which are a script or not
 abbrev pub Sessions : Bool → Bool → Result Script ℕ → Connected → Connected → Result Transcript SessionError → Type 0
-Sessions honest tells (Ok script) old new result = MatchResult result (Transcribes honest tells script new) (λ e. e ≡ OutOfMemory)
+Sessions honest tells (Ok script) old new result = MatchResult result (Transcribes honest tells script old new) (λ e. e ≡ OutOfMemory)
 Sessions honest tells (Err line) old new result = MatchResult result (λ t. ⊥) (IsBad old new)
 
 -- the line for a bad script, whose bad line isn't told yet
@@ -69,19 +95,19 @@ bad_line = codes "bad line 0\n"
 
 -- status 0 and a report of a script's transcript, or status 1 and the bad line with nothing run
 abbrev pub Answers : Bool → Bool → Result Script ℕ → Connected → Connected → ℕ → List ℕ → Type 0
-Answers honest tells (Ok script) old new status text = (status ≡ 0) × ((t : Transcript) × Transcribes honest tells script new t × (text ≡ report t.entries t.servers))
+Answers honest tells (Ok script) old new status text = (status ≡ 0) × ((t : Transcript) × Transcribes honest tells script old new t × (text ≡ report t.entries t.servers))
 Answers honest tells (Err line) old new status text = (status ≡ 1) × (new ≡ old) × (text ≡ bad_line)
 
 -- the words of the command line are this one word
 abbrev pub IsRun : List (String Global) → Type 0
 IsRun words = map string_bytes words ≡ codes "run" ∷ []
 
--- a text answers what the source had left, where it tells
+-- a text answers what the source had left, where it tells, and else some bytes
 abbrev pub AnswersLeft : Bool → Bool → Option (List ℕ) → Connected → Connected → ℕ → List ℕ → Type 0
-AnswersLeft honest tells None old new status text = Unit {0}
+AnswersLeft honest tells None old new status text = (bytes : List ℕ) × Answers honest tells (script_of bytes) old new status text
 AnswersLeft honest tells (Some bytes) old new status text = Answers honest tells (script_of bytes) old new status text
 
--- where nothing failed, a script is answered 0 and other bytes 1, unless memory ran out
+-- where nothing failed, a script is answered 0 and other bytes 1, unless memory ran out; a source that tells no bytes, one of these
 abbrev pub IsComplete : Option (List ℕ) → ℕ → Type 0
-IsComplete None status = Unit {0}
+IsComplete None status = (status ≡ 4) ⊎ (status ≤ 1)
 IsComplete (Some bytes) status = (status ≡ 4) ⊎ MatchResult (script_of bytes) (λ _. status ≡ 0) (λ _. status ≡ 1)

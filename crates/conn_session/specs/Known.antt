@@ -11,7 +11,9 @@ use Rattle.conn_report.specs.declared.entry.Entry.{Entry}
 use Rattle.conn_report.specs.declared.entry.Reply.{Reply}
 use Rattle.conn_script.specs.declared.command.Act.{Act}
 use Rattle.conn_script.specs.declared.command.Command.{Command}
+use Rattle.conn_model.specs.declared.plan.PlanLine.{PlanLine}
 use Rattle.conn_server.specs.Connected.{Connected}
+use Rattle.conn_server.specs.Ordered.{planned}
 use Rattle.conn_session.specs.Accounts.{Accounts}
 use Rattle.conn_session.specs.Worlds.{World, IsAccounted}
 
@@ -32,12 +34,28 @@ abbrev pub Have : Dialect → Logs → List Seen → Type 0
 Have d logs [] = ⊤
 Have d logs (s ∷ others) = Has d logs s × Have d logs others
 
--- each server is in one place, with its log, and no other has items
+-- a server goes by the orders that the plan has for its number
+abbrev pub GoesBy : List PlanLine → Seen → Type 0
+GoesBy plan s = (item : ℕ) → s.orders item ≡ planned plan s.number item
+
+-- so does each of them
+abbrev pub GoBy : List PlanLine → List Seen → Type 0
+GoBy plan [] = ⊤
+GoBy plan (s ∷ others) = GoesBy plan s × GoBy plan others
+
+-- so do all, wherever they are
+pub record IsOrdered (plan : List PlanLine) (slots out returned : List Seen) : Type 0 where
+  pub slots_by : GoBy plan slots
+  pub out_by : GoBy plan out
+  pub returned_by : GoBy plan returned
+
+-- each server is in one place, with its log, and goes by the plan, and no other has items
 pub record IsKnown (d : Dialect) (logs : Logs) (w : World) : Type 0 where
   pub accounts : IsAccounted w
   pub slots : Have d logs w.slots
   pub out : Have d logs w.out
   pub returned : Have d logs w.returned
+  pub ordered : IsOrdered w.plan w.slots w.out w.returned
   pub fresh : (n : ℕ) → w.context.opened ≤ n → logs n ≡ []
 
 -- where the reading of the logs stands
@@ -56,4 +74,5 @@ pub record GrowsAll (d : Dialect) (old new : World) (commands : List Command) (e
 pub record IsBack (d : Dialect) (logs : Logs) (k : Connected) : Type 0 where
   pub accounts : Accounts k.opened [] [] k.returned
   pub returned : Have d logs k.returned
+  pub ordered : GoBy k.armed k.returned
   pub fresh : (n : ℕ) → k.opened ≤ n → logs n ≡ []

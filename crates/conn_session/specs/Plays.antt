@@ -3,6 +3,7 @@ use Rattle.std.specs.Prelude.{ℕ, ◌+◌, ◌≡◌, ◌≢◌, ◌⊎◌, ⊤
 use Rattle.conn_result.specs.declared.error.Error.{Error}
 use Rattle.conn_result.specs.declared.error.Error.TheVariants.{DatabaseError, OutOfMemory}
 use Rattle.conn_result.specs.declared.error.ConnectionError.TheVariants.{BadConnection}
+use Rattle.conn_manager.specs.Manages.{IsRefusal}
 use Rattle.conn_manager.specs.Statuses.{no_depth}
 use Rattle.conn_report.specs.declared.entry.Entry.{Entry}
 use Rattle.conn_report.specs.declared.entry.Reply.{Reply}
@@ -57,6 +58,16 @@ IsOn (acts.Rollback n) = ⊤
 abbrev pub IsServerError : Error → Type 0
 IsServerError (DatabaseError kind code) = ⊤
 IsServerError _ = ⊥
+
+-- the reply hands on a refusal of a server
+abbrev pub IsRefused : Reply → Type 0
+IsRefused (replies.Error e) = IsRefusal (Err e)
+IsRefused _ = ⊥
+
+-- no connection was opened
+abbrev pub IsUnopened : Reply → Type 0
+IsUnopened (replies.Pool e) = ⊤
+IsUnopened _ = ⊥
 
 -- the errors of a command: a text is refused by its server alone; want of memory is no reply
 abbrev pub IsErrorOf : Act → Error → Type 0

@@ -3,11 +3,13 @@ ghost use Rattle.std.specs.Prelude.{◌≡◌, ◌≤◌, ◌<◌, ◌+◌, ◌�
 ghost use Rattle.conn_script.specs.declared.command.Act.TheVariants.{Get, Put, Batch};
 ghost use Rattle.conn_reading.specs.Seats.{place_of, entry_on as entry_of, entry_without as entry_of_none, is_kept, word_of};
 ghost use Rattle.conn_session.specs.Worlds.{Steps, StepsOn, Runs, Closes, IsAccounted, world_of, size_of, seat_of};
-ghost use Rattle.conn_session.specs.Plays.{IsOn, IsAnswer, RepliesTo};
+ghost use Rattle.conn_session.specs.Plays.{IsOn, IsAnswer, IsRefused, RepliesTo};
 ghost use Rattle.conn_session.specs.Known.{ActsBy, IsKnown, IsBack, Grows, GrowsAll};
 ghost use Rattle.conn_model.specs.declared.item.Dialect.{Dialect};
-ghost use Rattle.conn_manager.specs.Manages.{ActsOrMemory, done};
+ghost use Rattle.conn_manager.specs.Manages.{ActsOrMemory, IsRefusal, done};
+ghost use Rattle.conn_result.specs.Causes.{Rose};
 ghost use Rattle.conn_reading.specs.Answered.{Logs, process_of, reads, reads_on};
+ghost use Rattle.conn_server.specs.Connected.{AreAt};
 ghost use Rattle.conn_result.specs.declared.error.Error.TheVariants.{OutOfMemory as out_of_memory};
 
 use crate::ServerConnection;
@@ -97,6 +99,7 @@ fn put<K: Connector>(
     ensures reads { K.is_honest ≡ true → (d : Dialect) → IfOk result (Grows d (λ p logs. reads p logs line (Put n)) (world_of K.S.seen session.old (K.held connector.old)) (world_of K.S.seen session.new (K.held connector.new))) }
     ensures room { size_of K.S.seen session.new ≤ (K.held connector.new).room }
     ensures armed { (K.held connector.new).armed ≡ (K.held connector.old).armed }
+    ensures targets { (K.held connector.new).targets ≡ (K.held connector.old).targets }
 {
     let Some(at) = find(&session.out, n) else {
         return Ok(entry_without(line, Word::Put, Some(n), Reply::NotOut));
@@ -128,6 +131,7 @@ fn get<K: Connector>(
     ensures reads { K.is_honest ≡ true → IfOk result (Grows opening.now.dialect (λ p logs. reads p logs line Get) (world_of K.S.seen session.old (K.held connector.old)) (world_of K.S.seen session.new (K.held connector.new))) }
     ensures room { size_of K.S.seen session.new ≤ (K.held connector.new).room }
     ensures armed { (K.held connector.new).armed ≡ (K.held connector.old).armed }
+    ensures aims { AreAt opening.now.target (K.held connector.old).targets → AreAt opening.now.target (K.held connector.new).targets }
 {
     if session.slots.is_empty() {
         return Ok(entry_without(line, Word::Get, None, Reply::NoneFree));
@@ -181,9 +185,12 @@ fn word_of(act: &Act) -> Word
 }
 
 /// Runs a command on its connection.
+#[tactic(auto, using(crate::proofs::Faults::acts_later))]
 fn ask<S: Server>(act: &Act, connection: &mut ServerConnection<S>) -> QueryResult<()>
     requires { IsOn act.now }
-    ensures { ActsOrMemory S.is_honest (process_of (S.seen connection.old.server).dialect connection.old.status act.now) (S.seen connection.old.server) (S.seen connection.new.server) connection.old.status (done result connection.new.status) }
+    ensures acts { ActsOrMemory S.is_honest (process_of (S.seen connection.old.server).dialect connection.old.status act.now) (S.seen connection.old.server) (S.seen connection.new.server) connection.old.status (done result connection.new.status) }
+    ensures later { (S.seen connection.old.server).failures ≤ (S.seen connection.new.server).failures }
+    ensures refused { IsRefusal result → Rose (S.seen connection.old.server).failures (S.seen connection.new.server).failures }
 {
     match act {
         Act::Batch(_, text) => connection.batch_execute(text.as_str()),
@@ -195,10 +202,13 @@ fn ask<S: Server>(act: &Act, connection: &mut ServerConnection<S>) -> QueryResul
 }
 
 /// What a command does on its connection, and the reply.
+#[tactic(auto, using(crate::proofs::Faults::refused_as))]
 fn call<S: Server>(act: &Act, connection: &mut ServerConnection<S>) -> Result<Reply, AllocError>
     requires { IsOn act.now }
     ensures acts { IfOk result (ActsBy S.is_honest act.now (S.seen connection.old.server) (S.seen connection.new.server) connection.old.status connection.new.status) }
     ensures answer { IfOk result (IsAnswer act.now) }
+    ensures later { (S.seen connection.old.server).failures ≤ (S.seen connection.new.server).failures }
+    ensures refused { IfOk result (λ reply. IsRefused reply → Rose (S.seen connection.old.server).failures (S.seen connection.new.server).failures) }
     ensures number { (S.seen connection.new.server).number ≡ (S.seen connection.old.server).number }
 {
     reply_to(ask(act, connection))
@@ -239,6 +249,7 @@ fn run_one<K: Connector>(
     ensures reads { K.is_honest ≡ true → IfOk result (Grows opening.now.dialect (λ p logs. reads p logs command.now.line command.now.act) (world_of K.S.seen session.old (K.held connector.old)) (world_of K.S.seen session.new (K.held connector.new))) }
     ensures room { size_of K.S.seen session.new ≤ (K.held connector.new).room }
     ensures armed { (K.held connector.new).armed ≡ (K.held connector.old).armed }
+    ensures aims { AreAt opening.now.target (K.held connector.old).targets → AreAt opening.now.target (K.held connector.new).targets }
 {
     let line = command.line;
     let act = &command.act;
@@ -265,6 +276,7 @@ pub fn run_all<K: Connector>(
     ensures keeps { IsAccounted (world_of K.S.seen session.old (K.held connector.old)) → IsAccounted (world_of K.S.seen session.new (K.held connector.new)) }
     ensures room { size_of K.S.seen session.new ≤ (K.held connector.new).room }
     ensures armed { (K.held connector.new).armed ≡ (K.held connector.old).armed }
+    ensures aims { AreAt opening.now.target (K.held connector.old).targets → AreAt opening.now.target (K.held connector.new).targets }
 {
     let mut entries = Vec::with_capacity(alloc, commands.len())?;
     for command in commands {
@@ -280,6 +292,7 @@ pub fn close_all<K: Connector>(session: Session<K::S>, connector: &mut K)
     ensures known { (d : Dialect) → (logs : Logs) → IsKnown d logs (world_of K.S.seen session (K.held connector.old)) → IsBack d logs (K.held connector.new) }
     ensures closes { Closes (world_of K.S.seen session (K.held connector.old)) (K.held connector.new) }
     ensures armed { (K.held connector.new).armed ≡ (K.held connector.old).armed }
+    ensures targets { (K.held connector.new).targets ≡ (K.held connector.old).targets }
 {
     let Session { mut slots, mut out } = session;
     while let Some(connection) = out.pop() {

@@ -1,7 +1,8 @@
 //! The call behind the program: from the words and the bytes of a script to a status and the bytes of its report.
-ghost use Rattle.std.specs.Prelude.{◌≡◌, ◌≤◌, [], ◌∷◌, ℕ, List, IfOk, ◌↔◌, IsTrue, vec_len};
+ghost use Rattle.std.specs.Prelude.{◌≡◌, ◌≢◌, ◌≤◌, [], ◌∷◌, ℕ, List, IfOk, ◌↔◌, IsTrue, vec_len};
 ghost use Rattle.conn_result.specs.Causes.{Rose};
-ghost use Rattle.conn_io.specs.Bytes.{Adds, AddsPrefix};
+ghost use Rattle.std.specs.Io.KnownBytes.{Appends};
+ghost use Rattle.conn_io.specs.Bytes.{AppendsPrefix};
 ghost use Rattle.conn_script.specs.Grammar.{script_of};
 ghost use Rattle.conn_session.specs.Accounts.{AllBack};
 ghost use Rattle.conn_session.specs.Commands.{Answers, AnswersLeft, IsRun, IsComplete, bad_line};
@@ -63,7 +64,7 @@ pub fn run_command<I: Source, O: Sink, K: Connector>(
     requires none_returned { (K.held connector.old).returned ≡ [] }
 
     // 0 and 1: what the source had is answered, and the answer is written whole.
-    ensures answered { result ≤ 1 → IsRun words.now × ((text : List ℕ) × AnswersLeft K.is_honest K.S.is_honest (I.left source.old) (K.held connector.old) (K.held connector.new) result text × Adds (O.held sink.old) (O.held sink.new) text) }
+    ensures answered { result ≤ 1 → IsRun words.now × ((text : List ℕ) × AnswersLeft K.is_honest K.S.is_honest (I.left source.old) (K.held connector.old) (K.held connector.new) result text × Appends (O.held sink.old) (O.held sink.new) text) }
 
     // 2: the source failed, nothing is run and nothing written.
     ensures unread { result ≡ 2 → Rose (I.faults source.old) (I.faults source.new) }
@@ -71,7 +72,7 @@ pub fn run_command<I: Source, O: Sink, K: Connector>(
 
     // 3: the sink failed, and got less than the whole answer.
     ensures unwritten { result ≡ 3 → Rose (O.faults sink.old) (O.faults sink.new) }
-    ensures prefix { result ≡ 3 → (status : ℕ) × (text : List ℕ) × AnswersLeft K.is_honest K.S.is_honest (I.left source.old) (K.held connector.old) (K.held connector.new) status text × AddsPrefix (O.held sink.old) (O.held sink.new) text }
+    ensures prefix { result ≡ 3 → (status : ℕ) × (text : List ℕ) × AnswersLeft K.is_honest K.S.is_honest (I.left source.old) (K.held connector.old) (K.held connector.new) status text × AppendsPrefix (O.held sink.old) (O.held sink.new) text }
 
     // 4: memory was wanting before anything was written.
     ensures unreported { result ≡ 4 → O.held sink.new ≡ O.held sink.old }
@@ -80,6 +81,10 @@ pub fn run_command<I: Source, O: Sink, K: Connector>(
     ensures words { (result ≡ 5) ↔ ¬ (IsRun words.now) }
     ensures untouched { result ≡ 5 → (I.left source.new ≡ I.left source.old) × (O.held sink.new ≡ O.held sink.old) × (K.held connector.new ≡ K.held connector.old) }
     ensures range { result ≤ 5 }
+
+    // A count of faults rises with its own status alone.
+    ensures read { result ≢ 2 → I.faults source.new ≡ I.faults source.old }
+    ensures written { result ≢ 3 → O.faults sink.new ≡ O.faults sink.old }
 
     // Where neither the source nor the sink failed, a script is answered 0 and other bytes 1, but for want of memory.
     ensures complete { IsRun words.now → ¬ (Rose (I.faults source.old) (I.faults source.new)) → ¬ (Rose (O.faults sink.old) (O.faults sink.new)) → IsComplete (I.left source.old) result }

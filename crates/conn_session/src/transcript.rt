@@ -1,11 +1,14 @@
 //! A whole session: its commands run, and its servers given back.
-ghost use Rattle.std.specs.Prelude.{◌≡◌, true, [], IfOk, IsSome, Some};
+ghost use Rattle.std.specs.Prelude.{◌≡◌, true, [], IfOk, OnOk, IsSome, Some};
 ghost use Rattle.conn_script.specs.Grammar.{script_of, Gives};
 ghost use Rattle.conn_script.specs.declared.command.SessionError.TheVariants.{OutOfMemory as out_of_memory};
-ghost use Rattle.conn_server.specs.Connected.{writes_by, count_writes, write_at};
-ghost use Rattle.conn_session.specs.Accounts.{AllBack, servers_of};
+ghost use Rattle.conn_model.specs.declared.plan.Target.TheVariants.{Url as url};
+ghost use Rattle.conn_server.specs.Connected.{AreAt, writes_by, count_writes, write_at};
+ghost use Rattle.std.specs.List.{AllByRecursion};
+ghost use Rattle.conn_session.specs.Accounts.{AllBack, faults, servers_of};
+ghost use Rattle.conn_session.specs.Worlds.{IsCausedBy};
 ghost use Rattle.conn_session.specs.Plays.{IsPlayed};
-ghost use Rattle.conn_session.specs.Commands.{IsAnswered, IsParsed, Transcribes, Sessions};
+ghost use Rattle.conn_session.specs.Commands.{IsAnswered, EachTold, IsParsed, Transcribes, Sessions};
 
 use crate::run::{close_all, run_all};
 use crate::session::{Opening, Session};
@@ -72,6 +75,9 @@ fn run_commands<K: Connector>(
     requires none_opened { (K.held connector.old).opened ≡ 0 }
     requires none_returned { (K.held connector.old).returned ≡ [] }
     ensures answered { K.is_honest ≡ true → (K.held connector.old).attempts ≡ 0 → (K.held connector.old).armed ≡ script.now.plan → IfOk result (λ entries. IsAnswered script.now (K.held connector.new) entries.items) }
+    ensures kept { K.is_honest ≡ true → OnOk result (EachTold script.now.dialect (K.held connector.new) (λ n. writes_by true n (K.held connector.new).returned)) }
+    ensures aims { AreAt (url script.now.url) (K.held connector.old).targets → AreAt (url script.now.url) (K.held connector.new).targets }
+    ensures caused { IfOk result (λ entries. AllByRecursion (IsCausedBy (λ n. faults n (K.held connector.new).returned) (K.held connector.old).failures (K.held connector.new).failures) entries.items) }
     ensures played { IfOk result (λ entries. IsPlayed script.now.commands entries.items) }
     ensures back { AllBack (K.held connector.new).opened (K.held connector.new).returned }
     ensures armed { (K.held connector.new).armed ≡ (K.held connector.old).armed }
@@ -107,7 +113,7 @@ fn run_script<K: Connector>(
     requires none_opened { (K.held connector.old).opened ≡ 0 }
     requires none_returned { (K.held connector.old).returned ≡ [] }
     requires parsed { IsParsed script.now }
-    ensures transcribes { IfOk result (Transcribes K.is_honest K.S.is_honest script.now (K.held connector.new)) }
+    ensures transcribes { IfOk result (Transcribes K.is_honest K.S.is_honest script.now (K.held connector.old) (K.held connector.new)) }
     ensures back { AllBack (K.held connector.new).opened (K.held connector.new).returned }
 {
     connector.arm(alloc, script.plan.as_slice())?;

@@ -4,6 +4,6 @@
 #[cfg(test)]
 mod manager_tests;
 #[cfg(test)]
-mod refusal_tests;
+mod report_tests;
 #[cfg(test)]
 mod tests;

@@ -187,19 +187,6 @@ fn a_script_may_be_cut_where_a_line_ends(rt: HostRuntime) -> Result<(), Fail> {
 }
 
 #[test]
-fn what_a_savepoint_rolled_back_is_not_kept(rt: HostRuntime) -> Result<(), Fail> {
-    let script = plain(rt.alloc(), NAME_AGAIN)?;
-    let ended = run_whole(rt.alloc(), &script)?;
-    assert_eq!(rt; ended.status, 0);
-    assert!(rt;
-        ended.written.as_slice().ends_with(
-            b"\nserver 0 2\nwrite INSERT a\nwrite INSERT c\ndone 11 1\n"
-        )
-    );
-    Ok(())
-}
-
-#[test]
 fn a_rollback_at_depth_three_drops_the_writes_of_that_level(rt: HostRuntime) -> Result<(), Fail> {
     let script = plain(
         rt.alloc(),

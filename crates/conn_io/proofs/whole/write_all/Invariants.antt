@@ -1,12 +1,12 @@
-use Rattle.std.proofs.Common.{◌≤◌, ◌-◌, take, length}
-use Rattle.conn_io.specs.Bytes.{Adds}
+use Rattle.std.proofs.Common.{◌≡◌, ◌≤◌, ◌-◌, take, length}
+use Rattle.std.specs.Io.KnownBytes.{Appends}
 use Rattle.conn_io.proofs.whole.write_all.Given as goal
 
 abbrev pub invariant-loop-at : goal.invariant-loop-at
 invariant-loop-at g l = record {
-  added : Adds (g.O.Sink.held l.fn.sink) (g.O.Sink.held l.sink) (take l.at l.bytes);
+  added : Appends (g.O.Sink.held l.fn.sink) (g.O.Sink.held l.sink) (take l.at l.bytes);
   within : l.at ≤ length l.bytes;
-  later : g.O.Sink.faults l.fn.sink ≤ g.O.Sink.faults l.sink;
+  unfailed : g.O.Sink.faults l.sink ≡ g.O.Sink.faults l.fn.sink;
 }
 
 abbrev pub decreases-loop-at : goal.decreases-loop-at

@@ -12,6 +12,7 @@ use Rattle.conn_report.specs.declared.entry.Reply.TheVariants.{Pool}
 use Rattle.conn_script.specs.declared.command.Word.TheVariants as words
 use Rattle.conn_reading.specs.Seats.{entry_without}
 use Rattle.conn_session.proofs.Growing.{get_none_grows, get_kept_grows, get_opened_grows, get_refused_grows}
+use Rattle.conn_session.proofs.Aims.{aims}
 use Rattle.conn_session.proofs.run.get.Goals as goal
 
 pub returns-then-is_empty-clause-step : goal.returns-then-is_empty-clause-step
@@ -44,7 +45,7 @@ returns-in-Ok-clause-step g c =
     (first_and_rest slots.items c.remove.new.self.items c.remove.result (filled_at slots.items slots.len slots.ok.0 c.if-is_empty.ensures) c.remove.ensures.value c.remove.ensures.items)
     c.in_default.is c.reserve.ensures.items c.push_reserved-in-Ok.ensures
     (ap (λ (s : _). (g.K.S.Server.seen s).number) c.new-connection.ensures.server ∙ opens.is_new.number_is) c.new-connection.ensures.status
-    (ap (λ (k : Connected). k.opened) opens.keeps) (ap (λ (k : Connected). k.returned) opens.keeps) c.entry_on-entry-in-Ok.ensures
+    (ap (λ (k : Connected). k.opened) opens.keeps) (ap (λ (k : Connected). k.returned) opens.keeps) (ap (λ (k : Connected). k.failures) opens.keeps) c.entry_on-entry-in-Ok.ensures
 
 pub returns-in-Ok-clause-room : goal.returns-in-Ok-clause-room
 returns-in-Ok-clause-room g c =
@@ -66,7 +67,7 @@ returns-in_ok-push-in-Err-Refused-clause-step g c =
     get_refused g.K.S.Server.seen _ c.remove.new.self.items _ _ _ (g.K.Connector.held c.args.connector.now) (g.K.Connector.held c.connect.new.self) _ c.remove.result _ _
     (first_and_rest slots.items c.remove.new.self.items c.remove.result (filled_at slots.items slots.len slots.ok.0 c.if-is_empty.ensures) c.remove.ensures.value c.remove.ensures.items)
     c.in_default.is c.reserve.ensures.items c.in_ok-push-in-Err-Refused.ensures.items
-    (ap (λ (k : Connected). k.opened) refused.0) (ap (λ (k : Connected). k.returned) refused.0) c.entry_without-in-Err-Refused.ensures
+    (ap (λ (k : Connected). k.opened) refused.0) (ap (λ (k : Connected). k.returned) refused.0) refused.1 refused.4 c.entry_without-in-Err-Refused.ensures
 
 pub returns-in_ok-push-in-Err-Refused-clause-room :
     goal.returns-in_ok-push-in-Err-Refused-clause-room
@@ -105,7 +106,7 @@ returns-in-Ok-clause-reads g c = λ honest.
     (first_and_rest slots.items c.remove.new.self.items c.remove.result (filled_at slots.items slots.len slots.ok.0 c.if-is_empty.ensures) c.remove.ensures.value c.remove.ensures.items)
     c.in_default.is c.reserve.ensures.items c.push_reserved-in-Ok.ensures c.new-connection.ensures.server c.new-connection.ensures.status
     (g.met.K.S.Server.honesty (g.met.K.Connector.opens_honest honest) server)
-    (subst (λ (h : Bool). Opens h seen d old new server) honest c.in-Ok.ensures)
+    (subst (λ (h : Bool). Opens h seen d c.args.opening.now.target old new server) honest c.in-Ok.ensures)
     c.entry_on-entry-in-Ok.ensures
 
 pub returns-in_ok-push-in-Err-Refused-clause-reads :
@@ -117,7 +118,16 @@ returns-in_ok-push-in-Err-Refused-clause-reads g c = λ honest.
     let new = g.K.Connector.held c.connect.new.self in
     let code = c.in-Err-Refused.code in
     let fits : SFits w32 code = search rules in
-    get_refused_grows g.K.S.Server.seen c.args.opening.now.dialect _ c.remove.new.self.items _ _ _ old new _ c.remove.result code _
+    get_refused_grows g.K.S.Server.seen c.args.opening.now.dialect c.args.opening.now.target _ c.remove.new.self.items _ _ _ old new _ c.remove.result code _
     (first_and_rest slots.items c.remove.new.self.items c.remove.result (filled_at slots.items slots.len slots.ok.0 c.if-is_empty.ensures) c.remove.ensures.value c.remove.ensures.items)
     c.in_default.is c.reserve.ensures.items c.in_ok-push-in-Err-Refused.ensures.items
-    (subst (λ (h : Bool). NotOpened h old new (Refused code)) honest refused) (c.entry_without-in-Err-Refused.ensures ∙ ap (λ (z : ℤ). entry_without c.args.line words.Get None (Pool (BadConnection z))) (to_z-of_z w32 code fits))
+    (subst (λ (h : Bool). NotOpened h c.args.opening.now.target old new (Refused code)) honest refused) (c.entry_without-in-Err-Refused.ensures ∙ ap (λ (z : ℤ). entry_without c.args.line words.Get None (Pool (BadConnection z))) (to_z-of_z w32 code fits))
+
+pub returns-in-Ok-clause-aims : goal.returns-in-Ok-clause-aims
+returns-in-Ok-clause-aims g c = aims _ _ _ (ap (λ (k : Connected). k.targets) c.in-Ok.ensures.keeps)
+
+pub returns-in_ok-push-in-Err-Refused-clause-aims :
+    goal.returns-in_ok-push-in-Err-Refused-clause-aims
+returns-in_ok-push-in-Err-Refused-clause-aims g c =
+    let refused = rw c.in-Err-Refused.field-0-is at c.in-Err-Refused.ensures in
+    aims _ _ _ (ap (λ (k : Connected). k.targets) refused.0)

@@ -27,7 +27,7 @@ returns-in_err-reply-clause-step g c =
 
 pub returns-clause-step : goal.returns-clause-step
 returns-clause-step g c =
-    called g.K.S.Server.seen c.args.act.now _ _ _ (g.K.Connector.held c.args.connector.now) _ _ c.in-Some.at c.index_mut-connection.result.now c.call.new.connection c.in_ok-reply.reply _ (rw c.deref.ensures.value at c.in-Some.ensures) c.index_mut-connection.ensures.value refl c.call.ensures.number c.in_ok-reply.ensures.answer
+    called g.K.S.Server.seen c.args.act.now _ _ _ (g.K.Connector.held c.args.connector.now) _ _ c.in-Some.at c.index_mut-connection.result.now c.call.new.connection c.in_ok-reply.reply _ (rw c.deref.ensures.value at c.in-Some.ensures) c.index_mut-connection.ensures.value refl c.call.ensures.number c.in_ok-reply.ensures.answer c.call.ensures.later c.in_ok-reply.ensures.refused
     (c.entry_on.ensures ∙ ap (λ (w : Word). entry_on c.args.line w c.in_ok-reply.reply (seat_of g.K.S.Server.seen c.call.new.connection)) c.word_of-word.ensures)
 
 pub returns-in_default-clause-reads : goal.returns-in_default-clause-reads

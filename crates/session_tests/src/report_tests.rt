@@ -1,0 +1,100 @@
+//! What refusals and losses leave, and what a savepoint's name means that comes again: whole reports, worked out by hand.
+use crate::tests::run_whole;
+use std::alloc::{AllocError, Global};
+use std::test::Fail;
+
+/// Whether the script ends well with this report.
+fn is_reported(alloc: Global, script: &[u8], report: &[u8]) -> Result<bool, AllocError> {
+    let ended = run_whole(alloc, script)?;
+    Ok(ended.status == 0 && ended.written.as_slice() == report)
+}
+
+#[test]
+fn a_refused_release_keeps_the_depth(rt: HostRuntime) -> Result<(), Fail> {
+    let script =
+        b"session sqlite 1 nop nocheck\nrefuse 0 3 5 - stay\nget\nbegin 0\nbegin 0\ncommit 0\n";
+    let report =
+        b"3 get 0 | ok | none | 0\n4 begin 0 | ok | depth 1 | 1\n5 begin 0 | ok | depth 2 | 2\n6 commit 0 | error DatabaseError Unknown 5 | depth 2 | 3\nserver 0 0\ndone 4 1\n";
+    assert!(rt; is_reported(rt.alloc(), script, report)?);
+    Ok(())
+}
+
+#[test]
+fn a_refused_commit_is_rolled_back(rt: HostRuntime) -> Result<(), Fail> {
+    let script =
+        b"session sqlite 1 nop nocheck\nrefuse 0 3 5 - stay\nget\nbegin 0\nbatch 0 INSERT a\ncommit 0\nput 0\n";
+    let report =
+        b"3 get 0 | ok | none | 0\n4 begin 0 | ok | depth 1 | 1\n5 batch 0 | ok | depth 1 | 2\n6 commit 0 | error DatabaseError Unknown 5 | none | 4\n7 put 0 | kept | none | 4\nserver 0 0\ndone 5 1\n";
+    assert!(rt; is_reported(rt.alloc(), script, report)?);
+    Ok(())
+}
+
+#[test]
+fn a_broken_manager_is_healed_by_what_the_server_tells(rt: HostRuntime) -> Result<(), Fail> {
+    let script =
+        b"session sqlite 1 nop nocheck\nrefuse 0 2 5 - stay\nrefuse 0 3 10 - end\nrefuse 0 4 7 - stay\nget\nbegin 0\ncommit 0\nbatch 0 INSERT a\nput 0\n";
+    let report =
+        b"5 get 0 | ok | none | 0\n6 begin 0 | ok | depth 1 | 1\n7 commit 0 | error RollbackErrorOnCommit rollback DatabaseError Unknown 10 commit DatabaseError Unknown 5 | broken | 3\n8 batch 0 | error DatabaseError Unknown 7 | none | 4\n9 put 0 | kept | none | 4\nserver 0 0\ndone 5 1\n";
+    assert!(rt; is_reported(rt.alloc(), script, report)?);
+    Ok(())
+}
+
+#[test]
+fn a_lost_sqlite_server_is_kept(rt: HostRuntime) -> Result<(), Fail> {
+    let script =
+        b"session sqlite 1 nop nocheck\nrefuse 0 2 10 - lose\nget\nbegin 0\nbatch 0 INSERT a\nbatch 0 INSERT b\nput 0\n";
+    let report =
+        b"3 get 0 | ok | none | 0\n4 begin 0 | ok | depth 1 | 1\n5 batch 0 | error DatabaseError Unknown 10 | none | 2\n6 batch 0 | error DatabaseError Unknown -1 | none | 3\n7 put 0 | kept | none | 3\nserver 0 0\ndone 5 1\n";
+    assert!(rt; is_reported(rt.alloc(), script, report)?);
+    Ok(())
+}
+
+#[test]
+fn a_refused_write_may_end_the_transaction(rt: HostRuntime) -> Result<(), Fail> {
+    let script =
+        b"session sqlite 1 nop nocheck\nrefuse 0 2 787 - end\nget\nbegin 0\nbatch 0 INSERT a\ncommit 0\n";
+    let report =
+        b"3 get 0 | ok | none | 0\n4 begin 0 | ok | depth 1 | 1\n5 batch 0 | error DatabaseError ForeignKeyViolation 787 | none | 2\n6 commit 0 | error NotInTransaction | none | 2\nserver 0 0\ndone 4 1\n";
+    assert!(rt; is_reported(rt.alloc(), script, report)?);
+    Ok(())
+}
+
+#[test]
+fn a_savepoint_follows_a_commit(rt: HostRuntime) -> Result<(), Fail> {
+    let script =
+        b"session sqlite 1 nop nocheck\nget\nbegin 0\nbatch 0 INSERT a\ncommit 0\nbegin 0\nbatch 0 INSERT b\nbegin 0\nrollback 0\nput 0\n";
+    let report =
+        b"2 get 0 | ok | none | 0\n3 begin 0 | ok | depth 1 | 1\n4 batch 0 | ok | depth 1 | 2\n5 commit 0 | ok | none | 3\n6 begin 0 | ok | depth 1 | 4\n7 batch 0 | ok | depth 1 | 5\n8 begin 0 | ok | depth 2 | 6\n9 rollback 0 | ok | depth 1 | 7\n10 put 0 | closed | depth 1 | 7\nserver 0 1\nwrite INSERT a\ndone 9 1\n";
+    assert!(rt; is_reported(rt.alloc(), script, report)?);
+    Ok(())
+}
+
+#[test]
+fn a_commit_refused_with_its_rollback_breaks_the_manager(rt: HostRuntime) -> Result<(), Fail> {
+    let script =
+        b"session sqlite 1 nop nocheck\nrefuse 0 2 5 - stay\nrefuse 0 3 10 - stay\nget\nbegin 0\ncommit 0\nbegin 0\nput 0\n";
+    let report =
+        b"4 get 0 | ok | none | 0\n5 begin 0 | ok | depth 1 | 1\n6 commit 0 | error RollbackErrorOnCommit rollback DatabaseError Unknown 10 commit DatabaseError Unknown 5 | broken | 3\n7 begin 0 | error BrokenTransactionManager | broken | 3\n8 put 0 | closed | broken | 3\nserver 0 0\ndone 5 1\n";
+    assert!(rt; is_reported(rt.alloc(), script, report)?);
+    Ok(())
+}
+
+#[test]
+fn a_rollback_that_ends_after_a_refused_commit_breaks_it_too(rt: HostRuntime) -> Result<(), Fail> {
+    let script =
+        b"session sqlite 1 nop nocheck\nrefuse 0 2 5 - stay\nrefuse 0 3 10 - end\nget\nbegin 0\ncommit 0\nbegin 0\nput 0\n";
+    let report =
+        b"4 get 0 | ok | none | 0\n5 begin 0 | ok | depth 1 | 1\n6 commit 0 | error RollbackErrorOnCommit rollback DatabaseError Unknown 10 commit DatabaseError Unknown 5 | broken | 3\n7 begin 0 | error BrokenTransactionManager | broken | 3\n8 put 0 | closed | broken | 3\nserver 0 0\ndone 5 1\n";
+    assert!(rt; is_reported(rt.alloc(), script, report)?);
+    Ok(())
+}
+
+#[test]
+fn a_name_that_comes_again_hides_the_savepoint_that_stayed(rt: HostRuntime) -> Result<(), Fail> {
+    let script =
+        b"session sqlite 1 nop nocheck\nget\nbegin 0\nbatch 0 INSERT a\nbegin 0\nbatch 0 INSERT b\nrollback 0\nbegin 0\nbatch 0 INSERT c\ncommit 0\ncommit 0\nput 0\n";
+    let report =
+        b"2 get 0 | ok | none | 0\n3 begin 0 | ok | depth 1 | 1\n4 batch 0 | ok | depth 1 | 2\n5 begin 0 | ok | depth 2 | 3\n6 batch 0 | ok | depth 2 | 4\n7 rollback 0 | ok | depth 1 | 5\n8 begin 0 | ok | depth 2 | 6\n9 batch 0 | ok | depth 2 | 7\n10 commit 0 | ok | depth 1 | 8\n11 commit 0 | ok | none | 9\n12 put 0 | kept | none | 9\nserver 0 2\nwrite INSERT a\nwrite INSERT c\ndone 11 1\n";
+    assert!(rt; is_reported(rt.alloc(), script, report)?);
+    Ok(())
+}
