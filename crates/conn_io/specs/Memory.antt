@@ -13,20 +13,20 @@ abbrev pub uncalled : List ℕ → Schedule
 uncalled failing = record { made = 0; failing = failing; faults = 0 }
 
 -- one more, up to the greatest u64
-abbrev pub one_more : ℕ → ℕ
-one_more n = min (n + 1) (2 ^ 64 - 1)
+abbrev pub next_count : ℕ → ℕ
+next_count n = min (n + 1) (2 ^ 64 - 1)
 
 -- after a call
 abbrev pub called : Schedule → Schedule
-called s = record s { made = one_more s.made }
+called s = record s { made = next_count s.made }
 
 -- after a call that failed
 abbrev pub faulted : Schedule → Schedule
-faulted s = record s { made = one_more s.made; faults = one_more s.faults }
+faulted s = record s { made = next_count s.made; faults = next_count s.faults }
 
 -- the next call is one of those that fail
 abbrev pub is_failing : Schedule → Bool
-is_failing s = list_any (λ n. n == one_more s.made) s.failing
+is_failing s = list_any (λ n. n == next_count s.made) s.failing
 
 -- a source: the bytes that are left, the most that a call moves, and the calls
 pub record Feed : Type 0 where

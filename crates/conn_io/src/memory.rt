@@ -2,7 +2,7 @@
 ghost use Rattle.std.specs.Prelude.{◌≡◌, ◌<◌, ◌≤◌, ◌-◌, ◌++◌, ◌↔◌, [], min, length, take, drop, vec_len, vec_capacity, IfOk, OnOk, OnErr, IsErr, IsTrue};
 ghost use Rattle.conn_result.specs.Causes.{HasCause};
 ghost use Rattle.std.specs.Io.KnownBytes.{Consumes, IsAtEnd, Appends, Keeps};
-ghost use Rattle.conn_io.specs.Memory.{uncalled, one_more, called, faulted, is_failing, is_refused};
+ghost use Rattle.conn_io.specs.Memory.{uncalled, next_count, called, faulted, is_failing, is_refused};
 
 use crate::traits::{Failed, Sink, Source};
 use std::alloc::{AllocError, Global};
@@ -51,7 +51,7 @@ impl Calls {
 
     /// Counts a fault.
     fn fault(&mut self) -> Failed
-        ensures counts { self.new ≡ record self.old { faults = one_more self.old.faults } }
+        ensures counts { self.new ≡ record self.old { faults = next_count self.old.faults } }
         ensures later { self.old.faults ≤ self.new.faults }
     {
         self.faults = self.faults.saturating_add(1);
@@ -88,7 +88,8 @@ impl BytesSource {
         failing: &[u64],
     ) -> Result<BytesSource, AllocError>
         requires { 0 < most }
-        ensures { IfOk result (λ s. s ≡ record { left = bytes.now; most = most; calls = uncalled failing.now }) }
+        ensures { IfOk result (λ s.
+            s ≡ record { left = bytes.now; most = most; calls = uncalled failing.now }) }
     {
         Ok(BytesSource {
             bytes: Vec::from_slice(alloc, bytes)?,
@@ -109,14 +110,19 @@ impl Source for BytesSource {
     /// Moves the least of the place's length, `most` and the bytes that are left.
     fn read(&mut self, into: &mut [u8]) -> Result<usize, Failed>
         ensures due { IsErr result ↔ IsTrue (is_failing self.old.calls) }
-        ensures moved { IfOk result (λ n. n ≡ min (min (length into.old) self.old.most) (length self.old.left)) }
+        ensures moved { IfOk result (λ n.
+            n ≡ min (min (length into.old) self.old.most) (length self.old.left)) }
         ensures copied { IfOk result (λ n. into.new ≡ take n self.old.left ++ drop n into.old) }
-        ensures after { IfOk result (λ n. self.new ≡ record self.old { left = drop n self.old.left; calls = called self.old.calls }) }
-        ensures fault { OnErr result (self.new ≡ record self.old { calls = faulted self.old.calls }) }
+        ensures after { IfOk result (λ n. self.new
+            ≡ record self.old { left = drop n self.old.left; calls = called self.old.calls }) }
+        ensures fault { OnErr result
+            (self.new ≡ record self.old { calls = faulted self.old.calls }) }
         ensures untouched { OnErr result (into.new ≡ into.old) }
         ensures count { IfOk result (λ n. n ≤ length into.new) }
-        ensures takes { IfOk result (λ n. Consumes (Some self.old.left) (Some self.new.left) (take n into.new)) }
-        ensures ends { IfOk result (λ n. n ≡ 0 → 0 < length into.new → IsAtEnd (Some self.new.left)) }
+        ensures takes { IfOk result (λ n.
+            Consumes (Some self.old.left) (Some self.new.left) (take n into.new)) }
+        ensures ends { IfOk result (λ n.
+            n ≡ 0 → 0 < length into.new → IsAtEnd (Some self.new.left)) }
         ensures failed { OnErr result (Keeps (Some self.old.left) (Some self.new.left)) }
         ensures cause { HasCause self.old.calls.faults self.new.calls.faults result }
     {
@@ -160,7 +166,8 @@ impl BytesSink {
         failing: &[u64],
     ) -> Result<BytesSink, AllocError>
         requires { 0 < most }
-        ensures { IfOk result (λ s. s ≡ record { held = []; room = room; most = most; calls = uncalled failing.now }) }
+        ensures { IfOk result (λ s.
+            s ≡ record { held = []; room = room; most = most; calls = uncalled failing.now }) }
     {
         Ok(BytesSink {
             bytes: Vec::with_capacity(alloc, room)?,
@@ -188,12 +195,19 @@ impl Sink for BytesSink {
     /// Takes the least of the piece's length, `most` and the room that is left. Fails also where there is no room for a byte.
     fn write(&mut self, piece: &[u8]) -> Result<usize, Failed>
         ensures due { IsErr result ↔ IsTrue (is_refused self.old (length piece.now)) }
-        ensures moved { IfOk result (λ n. n ≡ min (min (length piece.now) self.old.most) self.old.room) }
-        ensures after { IfOk result (λ n. self.new ≡ record self.old { held = self.old.held ++ take n piece.now; room = self.old.room - n; calls = called self.old.calls }) }
-        ensures fault { OnErr result (self.new ≡ record self.old { calls = faulted self.old.calls }) }
+        ensures moved { IfOk result (λ n.
+            n ≡ min (min (length piece.now) self.old.most) self.old.room) }
+        ensures after { IfOk result (λ n. self.new ≡ record self.old {
+          held = self.old.held ++ take n piece.now;
+          room = self.old.room - n;
+          calls = called self.old.calls;
+        }) }
+        ensures fault { OnErr result
+            (self.new ≡ record self.old { calls = faulted self.old.calls }) }
         ensures count { IfOk result (λ n. n ≤ length piece.now) }
         ensures moves { IfOk result (λ n. 0 < length piece.now → 0 < n) }
-        ensures adds { IfOk result (λ n. Appends (Some self.old.held) (Some self.new.held) (take n piece.now)) }
+        ensures adds { IfOk result (λ n.
+            Appends (Some self.old.held) (Some self.new.held) (take n piece.now)) }
         ensures failed { OnErr result (Keeps (Some self.old.held) (Some self.new.held)) }
         ensures cause { HasCause self.old.calls.faults self.new.calls.faults result }
     {

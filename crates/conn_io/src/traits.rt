@@ -19,7 +19,8 @@ pub trait Source {
     /// is the end. A read that fails takes nothing and is counted.
     fn read(&mut self, into: &mut [u8]) -> Result<usize, Failed>
         ensures count { IfOk result (λ n. n ≤ length into.new) }
-        ensures takes { IfOk result (λ n. Consumes (left self.old) (left self.new) (take n into.new)) }
+        ensures takes { IfOk result (λ n.
+            Consumes (left self.old) (left self.new) (take n into.new)) }
         ensures ends { IfOk result (λ n. n ≡ 0 → 0 < length into.new → IsAtEnd (left self.new)) }
         ensures failed { OnErr result (Keeps (left self.old) (left self.new)) }
         ensures cause { HasCause (faults self.old) (faults self.new) result };
@@ -38,7 +39,8 @@ pub trait Sink {
     fn write(&mut self, piece: &[u8]) -> Result<usize, Failed>
         ensures count { IfOk result (λ n. n ≤ length piece.now) }
         ensures moves { IfOk result (λ n. 0 < length piece.now → 0 < n) }
-        ensures adds { IfOk result (λ n. Appends (held self.old) (held self.new) (take n piece.now)) }
+        ensures adds { IfOk result (λ n.
+            Appends (held self.old) (held self.new) (take n piece.now)) }
         ensures failed { OnErr result (Keeps (held self.old) (held self.new)) }
         ensures cause { HasCause (faults self.old) (faults self.new) result };
 }

@@ -19,16 +19,19 @@ pub enum ReadError {
 fn read_more<I: Source>(
     source: &mut I,
     room: usize,
+    place: &mut [u8],
     bytes: &mut Vec<u8>,
 ) -> Result<usize, ReadError>
-    requires { 0 < room }
+    requires room { 0 < room }
+    requires place { 0 < length place.old }
     ensures count { IfOk result (λ n. (n ≤ room) × (vec_len bytes.new ≡ vec_len bytes.old + n)) }
-    ensures takes { IfOk result (λ n. (taken : List ℕ) × (bytes.new.items ≡ bytes.old.items ++ taken) × Consumes (I.left source.old) (I.left source.new) taken) }
+    ensures takes { IfOk result (λ n. (taken : List ℕ)
+        × (bytes.new.items ≡ bytes.old.items ++ taken)
+        × Consumes (I.left source.old) (I.left source.new) taken) }
     ensures ends { IfOk result (λ n. n ≡ 0 → IsAtEnd (I.left source.new)) }
     ensures later { I.faults source.old ≤ I.faults source.new }
     ensures counts { CountsRead (I.faults source.old) (I.faults source.new) result }
 {
-    let mut place = [0u8; 4096];
     let end = room.min(place.len());
     match source.read(&mut place[..end]) {
         Ok(n) => {
@@ -43,16 +46,19 @@ fn read_more<I: Source>(
 
 /// Reads to the end, or until `most` bytes are read. The source's count of faults rises exactly with a failure.
 pub fn read_all<I: Source>(alloc: Global, source: &mut I, most: usize) -> Result<Vec<u8>, ReadError>
-    ensures ok { IfOk result (λ bytes. IfSome (I.left source.old) (λ left. bytes.items ≡ take most left)) }
+    ensures ok { IfOk result (λ bytes.
+        IfSome (I.left source.old) (λ left. bytes.items ≡ take most left)) }
     ensures count { IfOk result (λ bytes. vec_len bytes ≤ most) }
-    ensures takes { IfOk result (λ bytes. Consumes (I.left source.old) (I.left source.new) bytes.items) }
+    ensures takes { IfOk result (λ bytes.
+        Consumes (I.left source.old) (I.left source.new) bytes.items) }
     ensures later { I.faults source.old ≤ I.faults source.new }
     ensures counts { CountsRead (I.faults source.old) (I.faults source.new) result }
 {
+    let mut place = [0u8; 4096];
     let mut bytes = Vec::new(alloc);
     while bytes.len() < most {
         let room = most - bytes.len();
-        if read_more(source, room, &mut bytes)? == 0 {
+        if read_more(source, room, &mut place, &mut bytes)? == 0 {
             return Ok(bytes);
         }
     }

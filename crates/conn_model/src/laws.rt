@@ -7,15 +7,24 @@ ghost use Rattle.conn_model.specs.declared.item.Dialect.{Dialect};
 
 /// After an accepted savepoint of a depth that fits, one depth more fits.
 pub fn fits_is_kept_by_a_savepoint()
-    ensures { (d : Dialect) (t u : Transaction) (text : List ℕ) (depth : ℕ) → 0 < depth → fits depth t.marks ≡ true → accepts_class d (Open t) text (Savepoint depth) ≡ Some (Open u) → fits (suc depth) u.marks ≡ true }
+    ensures { (d : Dialect) (t u : Transaction) (text : List ℕ) (depth : ℕ) → 0 < depth
+        → fits depth t.marks ≡ true
+        → accepts_class d (Open t) text (Savepoint depth) ≡ Some (Open u)
+        → fits (suc depth) u.marks ≡ true }
 {}
 
 /// After the accepted release of the newest savepoint of a depth that fits, one depth less fits.
 pub fn fits_is_kept_by_a_release()
-    ensures { (d : Dialect) (t u : Transaction) (text : List ℕ) (depth : ℕ) → 0 < depth → fits (suc depth) t.marks ≡ true → accepts_class d (Open t) text (Release depth) ≡ Some (Open u) → fits depth u.marks ≡ true }
+    ensures { (d : Dialect) (t u : Transaction) (text : List ℕ) (depth : ℕ) → 0 < depth
+        → fits (suc depth) t.marks ≡ true
+        → accepts_class d (Open t) text (Release depth) ≡ Some (Open u)
+        → fits depth u.marks ≡ true }
 {}
 
 /// The same after an accepted rollback to it.
 pub fn fits_is_kept_by_going_back()
-    ensures { (d : Dialect) (t u : Transaction) (text : List ℕ) (depth : ℕ) → 0 < depth → fits (suc depth) t.marks ≡ true → accepts_class d (Open t) text (RollbackTo depth) ≡ Some (Open u) → fits depth u.marks ≡ true }
+    ensures { (d : Dialect) (t u : Transaction) (text : List ℕ) (depth : ℕ) → 0 < depth
+        → fits (suc depth) t.marks ≡ true
+        → accepts_class d (Open t) text (RollbackTo depth) ≡ Some (Open u)
+        → fits depth u.marks ≡ true }
 {}

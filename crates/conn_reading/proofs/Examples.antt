@@ -12,18 +12,23 @@ use Rattle.conn_model.specs.declared.item.Call.TheVariants.{Exec}
 use Rattle.conn_model.specs.declared.item.Dialect.TheVariants.{Sqlite}
 use Rattle.conn_model.specs.declared.item.Effect.TheVariants.{Stays}
 use Rattle.conn_model.specs.declared.item.Item.{Item}
-use Rattle.conn_manager.specs.Manages.{Done, done, flat}
+use Rattle.conn_manager.specs.Manages.{Done, done, flat, send_process}
 use Rattle.conn_manager.specs.Statuses.{Status, no_depth, at_depth}
 use Rattle.conn_manager.specs.declared.status.TransactionManagerStatus.TheVariants.{InError}
 use Rattle.conn_reading.specs.Folds.{alone, fold_of, FoldPremises}
-use Rattle.conn_reading.specs.Histories.{Deed, Begin, Commit, Rollback, Batch, Step, items_of, IsHistory}
+use Rattle.conn_reading.specs.Histories.{Operation, Begin, Commit, Rollback, Asks, Step, step_items, IsHistory}
+use Rattle.conn_reading.specs.Reading.{Beside}
 use Rattle.conn_reading.proofs.OnSqlite.{lawful_meets}
 
 abbrev item : List ℕ → Answer → Item
 item text answer = record { call = Exec; text = text; answer = answer }
 
-abbrev step_of : Deed → List ℕ → Answer → Done → Step
-step_of deed text answer a = record { deed = deed; items = item text answer ∷ []; answer = a }
+-- a text alone
+abbrev sent : List ℕ → Operation
+sent text = Asks (λ d s. send_process d text s)
+
+abbrev step_of : Operation → List ℕ → Answer → Done → Step
+step_of operation text answer a = record { operation = operation; items = item text answer ∷ []; answer = a }
 
 abbrev at : ℕ → Status
 at depth = at_depth (record { transaction_depth = depth; requires_rollback_maybe_up_to_top_level = false; test_transaction = false })
@@ -32,9 +37,9 @@ at depth = at_depth (record { transaction_depth = depth; requires_rollback_maybe
 abbrev nested : List Step
 nested =
     step_of Begin (codes "BEGIN") Accepted (done (Ok tt) (at 1))
-    ∷ step_of (Batch (codes "INSERT a")) (codes "INSERT a") Accepted (done (Ok tt) (at 1))
+    ∷ step_of (sent (codes "INSERT a")) (codes "INSERT a") Accepted (done (Ok tt) (at 1))
     ∷ step_of Begin (codes "SAVEPOINT diesel_savepoint_1") Accepted (done (Ok tt) (at 2))
-    ∷ step_of (Batch (codes "INSERT b")) (codes "INSERT b") Accepted (done (Ok tt) (at 2))
+    ∷ step_of (sent (codes "INSERT b")) (codes "INSERT b") Accepted (done (Ok tt) (at 2))
     ∷ step_of Rollback (codes "ROLLBACK TO SAVEPOINT diesel_savepoint_1") Accepted (done (Ok tt) (at 1))
     ∷ step_of Commit (codes "COMMIT") Accepted (done (Ok tt) no_depth)
     ∷ []
@@ -56,6 +61,10 @@ a_alone = codes "INSERT a" ∷ []
 abbrev a_and_b : List (List ℕ)
 a_and_b = codes "INSERT a" ∷ codes "INSERT b" ∷ []
 
+-- nothing is heard beside a text
+abbrev none_beside : Beside
+none_beside = record { columns = 0; affected = 0; rows = [] }
+
 nested_follows : IsHistory Sqlite nested no_depth
 unfolding class is_begin is_built is_write same_text begins number_behind digits
 nested_follows = record {
@@ -64,32 +73,32 @@ nested_follows = record {
     tt,
     (
       open_at [] [],
-      record { whatever_follows = λ more. refl },
+      (refl, refl, (_, refl, (none_beside, (refl, refl)))),
       (
-        refl,
+        λ d s. (refl, λ h. refl),
         (
           open_at a_alone [],
-          record { whatever_follows = λ more. refl },
+          (refl, refl, (_, refl, (none_beside, (refl, refl)))),
           (
             tt,
             (
               open_at a_alone (mark_1 ∷ []),
-              record { whatever_follows = λ more. refl },
+              (refl, refl, (_, refl, (none_beside, (refl, refl)))),
               (
-                refl,
+                λ d s. (refl, λ h. refl),
                 (
                   open_at a_and_b (mark_1 ∷ []),
-                  record { whatever_follows = λ more. refl },
+                  (refl, refl, (_, refl, (none_beside, (refl, refl)))),
                   (
                     tt,
                     (
                       open_at a_alone (mark_1 ∷ []),
-                      record { whatever_follows = λ more. refl },
+                      (refl, refl, (_, refl, (none_beside, (refl, refl)))),
                       (
                         tt,
                         (
                           Idle a_alone,
-                          record { whatever_follows = λ more. refl },
+                          (refl, refl, (_, refl, (none_beside, (refl, refl)))),
                           (refl, refl),
                         ),
                       ),
@@ -112,7 +121,7 @@ nested_meets : FoldPremises Sqlite nested
 unfolding class is_begin is_built is_write same_text begins number_behind digits
 nested_meets = record {
   none_refused = refl;
-  none_in_idle = (lawful_meets (Idle []) (Idle a_alone) (items_of nested) refl).0;
+  none_in_idle = (lawful_meets (Idle []) (Idle a_alone) (step_items nested) refl).0;
   live = (tt, (tt, (tt, (tt, (tt, (not_live, tt))))));
 }
 
@@ -127,12 +136,12 @@ error = DatabaseError Unknown (pos 5)
 abbrev broken : List Step
 broken =
     step_of Begin (codes "BEGIN") Accepted (done (Ok tt) (at 1))
-    ∷ record { deed = Commit; items = item (codes "COMMIT") busy ∷ item (codes "ROLLBACK") busy ∷ []; answer = done (Err (RollbackErrorOnCommit (flat error) (flat error))) InError }
+    ∷ record { operation = Commit; items = item (codes "COMMIT") busy ∷ item (codes "ROLLBACK") busy ∷ []; answer = done (Err (RollbackErrorOnCommit (flat error) (flat error))) InError }
     ∷ []
 
 broken_follows : IsHistory Sqlite broken InError
 unfolding class is_begin is_built is_write same_text begins number_behind digits
 broken_follows = record {
   state = open_at [] [];
-  follows = (tt, (open_at [] [], record { whatever_follows = λ more. refl }, (tt, (open_at [] [], record { whatever_follows = λ more. refl }, (refl, refl)))));
+  follows = (tt, (open_at [] [], (refl, refl, (_, refl, (none_beside, (refl, refl)))), (tt, (open_at [] [], (refl, refl, (_, refl, (none_beside, (refl, refl, (_, refl, (none_beside, (refl, refl))))))), (refl, refl)))));
 }

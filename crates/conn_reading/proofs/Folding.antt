@@ -1,12 +1,13 @@
 -- Each call of the manager keeps the stack of the fold, where none of its texts is refused.
-use Rattle.std.proofs.Common.{◌≡◌, ℕ, ◌-◌, ◌<◌, Bool, true, false, ◌||◌, ◌&&◌, if◌then◌else◌, nat_lt, List, [], ◌∷◌, codes, refl, sym, ap, ◌∙◌, subst, Some, None, Ok, Err, arith}
+use Rattle.std.proofs.Common.{◌≡◌, ℕ, ◌+◌, ◌-◌, ◌<◌, Bool, true, false, ◌||◌, ◌&&◌, if◌then◌else◌, nat_lt, List, [], ◌∷◌, codes, refl, sym, ap, ◌∙◌, subst, Some, None, Ok, Err, arith}
 use Rattle.std.specs.Bool.{⊤}
 use Rattle.std.specs.List.{list_any}
 use Rattle.std.proofs.lemmas.Bool.Decides.{nat_tests}
 use Rattle.conn_result.specs.declared.error.Error.TheVariants.{DepthExhausted}
 use Rattle.conn_model.specs.Classes.{class}
 use Rattle.conn_model.proofs.Names.{class-begin, class-savepoint}
-use Rattle.conn_model.specs.Process.{Process, Stop, refusal_of}
+use Rattle.conn_model.specs.Events.{BeginTransaction}
+use Rattle.conn_model.specs.Process.{Process, Stop, Tell, refusal_of}
 use Rattle.conn_model.specs.States.{State, Idle, Open, Lost, step_by, told_of, accepts}
 use Rattle.conn_model.specs.declared.class.Class.{Class}
 use Rattle.conn_model.specs.declared.class.Class.TheVariants as of
@@ -21,8 +22,8 @@ use Rattle.conn_manager.specs.Statuses.{Status, valid, retold, no_depth, at_dept
 use Rattle.conn_manager.specs.declared.status.InTransactionStatus.{InTransactionStatus}
 use Rattle.conn_manager.specs.declared.status.TransactionManagerStatus.TheVariants.{Valid, InError}
 use Rattle.conn_reading.specs.Folds.{Level, Stack, Nested, pushed, merged, dropped, IsDoomed, is_write_class, is_transaction_class, after_item, after_items, Begins, Commits, Rolls, after_reply, refuses_transaction, sets, SetsInOpen}
+use Rattle.conn_reading.specs.Reading.{Reads}
 use Rattle.conn_reading.specs.Verdicts.{Part, Holds, is_refused_by, runs_class}
-use Rattle.conn_reading.proofs.ItemsRead.{Reads}
 use Rattle.conn_reading.proofs.Ending.{ending_lowers, ending_is, ending_class}
 use Rattle.conn_reading.proofs.Nesting.{begin_nests, savepoint_nests, release_nests, return_nests, commit_nests, rollback_nests}
 
@@ -66,7 +67,7 @@ takes d s S text next f (i ∷ is) a s' to_stop c none reads =
     let runs : runs_class is_transaction_class i.call i.text ≡ true =
     (ap (λ (x : Call). runs_class is_transaction_class x i.text) reads.0 ∙ ap (λ (t : List ℕ). is_transaction_class (class t)) reads.1 ∙ c) in
     let known : ((is_refused_by i.answer && true) || list_any refuses_transaction is) ≡ false = subst (λ (b : Bool). ((is_refused_by i.answer && b) || list_any refuses_transaction is) ≡ false) runs none in
-    takes_by d s reads.2.0 S text next f i is a s' i.answer (list_any refuses_transaction is) to_stop reads.0 reads.1 refl stepped known reads.2.2
+    takes_by d s reads.2.0 S text next f i is a s' i.answer (list_any refuses_transaction is) to_stop reads.0 reads.1 refl stepped known reads.2.2.1
 
 -- it changes no list by itself
 transaction_not_write : (c : Class) → is_transaction_class c ≡ true → is_write_class c ≡ false
@@ -126,7 +127,7 @@ begin_folds d (Valid v) s p items a s' k h n reads none opens =
         begun_entry d s (codes "BEGIN") no_depth items a s' k c t (begin_nests d s s' k (codes "BEGIN") class-begin g.status m t.is)
 
     deeper : (t : InTransactionStatus) (b : Bool) → nat_lt t.transaction_depth 4294967295 ≡ b → Holds d (at_depth t) s p → Nested (at_depth t) s k
-        → Reads d s (if b then begin_with d (savepoint_text t.transaction_depth) (at_depth t) else Stop (done (Err DepthExhausted) (at_depth t))) items a s' → Nested a.status s' (after_reply Begins a.reply (after_items items k))
+        → Reads d s (if b then Tell (BeginTransaction (t.transaction_depth + 1)) (begin_with d (savepoint_text t.transaction_depth) (at_depth t)) else Stop (done (Err DepthExhausted) (at_depth t))) items a s' → Nested a.status s' (after_reply Begins a.reply (after_items items k))
     deeper t false is g m r = let e = stopped d s _ items a s' r in rw (e.0, e.1, e.2) m
     deeper t true is g m r =
         let high : t.transaction_depth < 4294967295 = grind (arith, nat_tests) in

@@ -1,4 +1,4 @@
-pub mod Texts
+pub mod Looks
 pub mod Appends
 pub mod InOrder
 pub mod InPlace
@@ -19,6 +19,7 @@ pub mod Folding
 pub mod Levels
 pub mod FollowingFold
 pub mod EachSeat
+pub mod ByNumber
 pub mod PlainScripts
 pub mod Tracks
 pub mod Deeds
@@ -31,3 +32,4 @@ pub mod SessionLaws
 pub mod OnSqlite
 pub mod Examples
 pub mod SessionExamples
+pub mod LookExamples

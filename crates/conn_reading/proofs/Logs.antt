@@ -2,17 +2,16 @@
 use Rattle.std.proofs.Common.{◌≡◌, ℕ, Bool, true, false, ◌||◌, if◌then◌else◌, List, [], ◌∷◌, ◌++◌, refl, subst, sym, ap, ◌∙◌, append_assoc, append-nil, Option, Some, None, inl, inr}
 use Rattle.std.specs.List.{list_any}
 use Rattle.std.specs.Option.{option_and_then}
-use Rattle.conn_model.specs.Process.{Process, Stop, Ask, Heard}
-use Rattle.conn_model.specs.States.{State, Idle, Open, Lost, step, step_by, steps, state_of, state_of-append, is_closed}
+use Rattle.conn_model.specs.Process.{Process, Stop, Ask, Look, Tell, Heard, plain_heard, given_rows, row_refused}
+use Rattle.conn_model.specs.States.{State, Idle, Open, Lost, step, step_by, steps, state_of, state_of-append, is_closed, told_of}
 use Rattle.conn_model.specs.declared.item.Call.{Call}
 use Rattle.conn_model.specs.declared.item.Dialect.{Dialect}
 use Rattle.conn_model.specs.declared.item.Item.{Item}
 use Rattle.conn_manager.specs.Statuses.{Status, valid, no_depth}
 use Rattle.conn_manager.specs.declared.status.InTransactionStatus.{InTransactionStatus}
 use Rattle.conn_manager.specs.declared.status.TransactionManagerStatus.TheVariants.{Valid, InError}
-use Rattle.conn_reading.specs.Reading.{heard_of}
-use Rattle.conn_reading.specs.Verdicts.{Part, fresh, part_of, part_after, current, opens, is_refused, breaks, runs_class, is_begin_class, BeginsClosed, Holds, HoldsIn, HoldsAt, Verdict, IsBorneOut, DepthOver, DepthOverIn, DepthOverAt, StandsOver}
-use Rattle.conn_reading.proofs.ItemsRead.{Reads}
+use Rattle.conn_reading.specs.Reading.{Beside, heard_with, Reads}
+use Rattle.conn_reading.specs.Verdicts.{Part, fresh, part_of, part_after, current, opens, is_refusal, breaks, runs_class, is_begin_class, BeginsClosed, Holds, HoldsIn, HoldsAt, Verdict, IsBorneOut, DepthOver, DepthOverIn, DepthOverAt, StandsOver}
 use Rattle.conn_reading.proofs.Safe.{Safe}
 
 -- ---- the current part of a log with one item more
@@ -44,12 +43,12 @@ current-last (x ∷ log) i = rw (any_last opens log i) (by_cases (opens x) (open
 
 part-last : (log : List Item) (i : Item) → part_of (log ++ i ∷ []) ≡ part_after (part_of log) i.call i.text i.answer
 part-last log i =
-    ap (λ (is : List Item). record { refused = list_any is_refused is; broke = list_any breaks is }) (current-last log i) ∙ by_case (opens i)
+    ap (λ (is : List Item). record { refused = list_any is_refusal is; broke = list_any breaks is }) (current-last log i) ∙ by_case (opens i)
   where
-    by_case : (b : Bool) → (let is : List Item = if b then [] else current log ++ i ∷ [] in let q : Part = record { refused = list_any is_refused is; broke = list_any breaks is } in q)
-        ≡ (let q : Part = record { refused = is_refused i || list_any is_refused (current log); broke = breaks i || list_any breaks (current log) } in if b then fresh else q)
+    by_case : (b : Bool) → (let is : List Item = if b then [] else current log ++ i ∷ [] in let q : Part = record { refused = list_any is_refusal is; broke = list_any breaks is } in q)
+        ≡ (let q : Part = record { refused = is_refusal i || list_any is_refusal (current log); broke = breaks i || list_any breaks (current log) } in if b then fresh else q)
     by_case true = refl
-    by_case false = rw (any_last is_refused (current log) i, any_last breaks (current log) i)
+    by_case false = rw (any_last is_refusal (current log) i, any_last breaks (current log) i)
 
 -- ---- a log and its state
 
@@ -82,24 +81,38 @@ sound_at_first d = record { gives = record { lawful = refl; begins = tt }; holds
 
 module _ {A : Type 0} (d : Dialect) (status : A → Status) where
   -- what is safe for the call and text that were asked is so for those of the item
-  safe_at : (s after : State) (p : Part) (call : Call) (text : List ℕ) (next : Heard → Process A) (i : Item) → i.call ≡ call → i.text ≡ text → step d s i ≡ Some after → Safe d status s p (Ask call text next)
-      → (runs_class is_begin_class i.call i.text ≡ true → is_closed s ≡ true) × Safe d status after (part_after p i.call i.text i.answer) (next (heard_of d after i))
-  safe_at s after p call text next i same_call same_text is safe =
+  safe_at : (s after : State) (p : Part) (call : Call) (text : List ℕ) (next : Heard → Process A) (i : Item) (b : Beside) → i.call ≡ call → i.text ≡ text → step d s i ≡ Some after → Safe d status s p (Ask call text next)
+      → (runs_class is_begin_class i.call i.text ≡ true → is_closed s ≡ true) × Safe d status after (part_after p i.call i.text i.answer) (next (heard_with d after i.answer b))
+  safe_at s after p call text next i b same_call same_text is safe =
       let asked : (c : Call) (t : List ℕ) → c ≡ call → t ≡ text → step_by d s c t i.answer ≡ Some after
-      → (runs_class is_begin_class c t ≡ true → is_closed s ≡ true) × Safe d status after (part_after p c t i.answer) (next (heard_of d after i)) =
-      (λ c t e f g. rw (e, f) (safe.0, safe.1 i.answer after (rw (e, f) at g))) in
+      → (runs_class is_begin_class c t ≡ true → is_closed s ≡ true) × Safe d status after (part_after p c t i.answer) (next (heard_with d after i.answer b)) =
+      (λ c t e f g. rw (e, f) (safe.0, safe.1 i.answer after (rw (e, f) at g) b)) in
       asked i.call i.text same_call same_text is
 
   sound_by : (process : Process A) (s : State) (before items : List Item) (a : A) (end : State) → Gives d before s → Safe d status s (part_of before) process → Reads d s process items a end → Sound d (status a) (before ++ items) end
   sound_by (Stop x) s before [] a end gives safe reads = rw (append-nil before, reads.0, reads.1) (record { gives = gives; holds = safe })
   sound_by (Stop x) s before (i ∷ is) a end gives safe reads = absurd reads
+  sound_by (Tell event p) s before items a end gives safe reads = sound_by p s before items a end gives safe reads
   sound_by (Ask call text next) s before [] a end gives safe reads = absurd reads
   sound_by (Ask call text next) s before (i ∷ is) a end gives safe reads =
       let after : State = reads.2.0 in
-      let h = safe_at s after (part_of before) call text next i reads.0 reads.1 reads.2.1 safe in
-      let rest = sound_by (next (heard_of d after i)) after (before ++ i ∷ []) is a end (gives_more d before s after i gives h.0 reads.2.1)
-      (subst (λ (p : Part). Safe d status after p (next (heard_of d after i))) (sym (part-last before i)) h.1) reads.2.2 in
+      let h = safe_at s after (part_of before) call text next i reads.2.2.0 reads.0 reads.1 reads.2.1 safe in
+      let rest = sound_by (next (heard_with d after i.answer reads.2.2.0)) after (before ++ i ∷ []) is a end (gives_more d before s after i gives h.0 reads.2.1)
+      (subst (λ (p : Part). Safe d status after p (next (heard_with d after i.answer reads.2.2.0))) (sym (part-last before i)) h.1) reads.2.2.1 in
       subst (λ (l : List Item). Sound d (status a) l end) (append_assoc before (i ∷ []) is) rest
+  sound_by (Look text next) s before [] a end gives safe reads = sound_by (next (given_rows reads.0)) s before [] a end gives (safe.0 reads.0) reads.1
+  sound_by (Look text next) s before (i ∷ is) a end gives safe (inl reads) = sound_by (next (given_rows reads.0)) s before (i ∷ is) a end gives (safe.0 reads.0) reads.1
+  sound_by (Look text next) s before (i ∷ is) a end gives safe (inr reads) =
+      let r = reads.0 in
+      let e = reads.1 in
+      let after : State = reads.3.0 in
+      let row : Item = row_refused r e in
+      let stepped : step d s row ≡ Some after = subst (λ (x : Item). step d s x ≡ Some after) reads.2 reads.3.1 in
+      let more : Gives d (before ++ row ∷ []) after = gives_more d before s after row gives (λ b. absurd (cc)) stepped in
+      let here : Safe d status after (part_of (before ++ row ∷ [])) (next (plain_heard (Some r) (told_of d after))) =
+      subst (λ (p : Part). Safe d status after p (next (plain_heard (Some r) (told_of d after)))) (sym (part-last before row)) (safe.1 r e after stepped) in
+      let rest = sound_by (next (plain_heard (Some r) (told_of d after))) after (before ++ row ∷ []) is a end more here reads.3.2 in
+      subst (λ (x : Item). Sound d (status a) (before ++ x ∷ is) end) (sym reads.2) (subst (λ (l : List Item). Sound d (status a) l end) (append_assoc before (row ∷ []) is) rest)
 
   -- a safe process keeps the invariant over the items that it reads
   pub sound_reads : (S : Status) (s : State) (before items : List Item) (process : Process A) (a : A) (end : State) → Sound d S before s → ((p : Part) → Holds d S s p → Safe d status s p process) → Reads d s process items a end

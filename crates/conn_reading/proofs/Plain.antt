@@ -1,7 +1,7 @@
 -- Calls that send texts which ask nothing of a transaction, and follow what the server tells, keep the invariant.
 use Rattle.std.proofs.Common.{◌≡◌, ℕ, Bool, true, false, if◌then◌else◌, List, [], ◌∷◌, ◌++◌, refl, sym, ◌∙◌, subst, Some, None}
 use Rattle.conn_model.specs.Classes.{class}
-use Rattle.conn_model.specs.Process.{Process, Stop, Ask, Heard, refusal_of, plain_heard}
+use Rattle.conn_model.specs.Process.{Process, Stop, Ask, Look, Tell, Heard, refusal_of, plain_heard, given_rows}
 use Rattle.conn_model.specs.States.{step_refused, State, Idle, Open, Lost, Transaction, step_by, accepts, idle_accepts, open_accepts, aborted_accepts, accepts_prepare, commits, told_of}
 use Rattle.conn_model.specs.declared.class.Class.{Class}
 use Rattle.conn_model.specs.declared.class.Class.TheVariants as of
@@ -10,11 +10,12 @@ use Rattle.conn_model.specs.declared.item.Answer.TheVariants.{Accepted, Refused}
 use Rattle.conn_model.specs.declared.item.Call.{Call}
 use Rattle.conn_model.specs.declared.item.Call.TheVariants.{Exec, Prepare, Run, Fetch}
 use Rattle.conn_model.specs.declared.item.Dialect.{Dialect}
-use Rattle.conn_manager.specs.Manages.{send_process}
 use Rattle.conn_manager.specs.Statuses.{Status, retold}
+use Rattle.conn_reading.specs.Plainly.{Plainly}
+use Rattle.conn_reading.specs.Reading.{heard_with}
 use Rattle.conn_reading.specs.Verdicts.{Part, part_after, fresh, Holds, is_plain, is_begin_class, runs_class}
 use Rattle.conn_reading.proofs.Items.{refused_keeps, heard_idle, heard_open, same_marks}
-use Rattle.conn_reading.proofs.Safe.{Safe, left_status, refuses_as}
+use Rattle.conn_reading.proofs.Safe.{Safe, refuses_as}
 
 pub false_true : false ≡ true → ⊥
 false_true e = cc
@@ -91,20 +92,19 @@ call_keeps d S s mid p call text Accepted c h is = subst (λ (b : Bool). Holds d
 call_keeps d S s mid p call text (Refused x e) c h is = refused_keeps d S s mid p (part_after p call text (Refused x e)) (commits call text) x e (refuses_as p call text x e) h (step_refused d s text call text x e mid is).1
 
 module _ {A : Type 0} (d : Dialect) (status : A → Status) where
-  -- it sends plain texts, and ends with the status that the items tell
-  abbrev pub Plainly : Status → Process A → Type 0
-  Plainly S (Stop a) = status a ≡ S
-  Plainly S (Ask call text next) = (is_plain (class text) ≡ true) × ((h : Heard) → Plainly (retold d h.refusal h.told S) (next h))
-
-  pub plainly_safe : (S : Status) (s : State) (p : Part) (process : Process A) → Plainly S process → Holds d S s p → Safe d status s p process
+  pub plainly_safe : (S : Status) (s : State) (p : Part) (process : Process A) → Plainly d status S process → Holds d S s p → Safe d status s p process
   plainly_safe S s p (Stop a) plainly h = subst (λ (x : Status). Holds d x s p) (sym plainly) h
+  plainly_safe S s p (Tell event q) plainly h = plainly_safe S s p q plainly h
   plainly_safe S s p (Ask call text next) plainly h = (
     λ e. absurd (false_true (sym (plain_call call text plainly.0) ∙ e)),
-    λ answer mid is.
-        let heard : Heard = plain_heard (refusal_of answer) (told_of d mid) in
+    λ answer mid is b.
+        let heard : Heard = heard_with d mid answer b in
         plainly_safe (retold d (refusal_of answer) (told_of d mid) S) mid (part_after p call text answer) (next heard) (plainly.1 heard) (call_keeps d S s mid p call text answer plainly.0 h is),
   )
-
--- a text alone
-pub send_safe : (d : Dialect) (S : Status) (s : State) (p : Part) (text : List ℕ) → is_plain (class text) ≡ true → Holds d S s p → Safe d left_status s p (send_process d text S)
-send_safe d S s p text c h = plainly_safe d left_status S s p (send_process d text S) (c, λ x. refl) h
+  plainly_safe S s p (Look text next) plainly h = (
+    λ rows. plainly_safe S s p (next (given_rows rows)) (plainly (given_rows rows)) h,
+    λ r e mid is.
+        let heard : Heard = plain_heard (Some r) (told_of d mid) in
+        plainly_safe (retold d (Some r) (told_of d mid) S) mid (part_after p Fetch [] (Refused r e)) (next heard) (plainly heard)
+        (refused_keeps d S s mid p (part_after p Fetch [] (Refused r e)) (commits Fetch []) r e (refuses_as p Fetch [] r e) h (step_refused d s [] Fetch [] r e mid is).1),
+  )

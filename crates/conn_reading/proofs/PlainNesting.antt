@@ -1,8 +1,8 @@
 -- Calls that send texts which ask nothing of a transaction keep the stack of the fold.
-use Rattle.std.proofs.Common.{◌≡◌, ℕ, Bool, true, false, if◌then◌else◌, List, [], ◌∷◌, ◌++◌, length, refl, sym, ap, ◌∙◌, subst, Option, Some, None}
+use Rattle.std.proofs.Common.{◌≡◌, ℕ, Bool, true, false, if◌then◌else◌, List, [], ◌∷◌, ◌++◌, length, refl, sym, ap, ◌∙◌, subst, Option, Some, None, inl, inr}
 use Rattle.conn_model.specs.Classes.{class}
-use Rattle.conn_model.specs.Process.{Process, Stop, Ask, refusal_of}
-use Rattle.conn_model.specs.States.{State, Idle, Open, Lost, Transaction, Writes, step_by, step_refused, refuses, open_refuses, is_serialization_failure, commits, told_of, accepts, accepts_prepare, idle_accepts, open_accepts, aborted_accepts}
+use Rattle.conn_model.specs.Process.{Process, Stop, Ask, Look, Tell, refusal_of, plain_heard, given_rows, row_refused}
+use Rattle.conn_model.specs.States.{State, Idle, Open, Lost, Transaction, Writes, step, step_by, step_refused, refuses, open_refuses, is_serialization_failure, commits, told_of, accepts, accepts_prepare, idle_accepts, open_accepts, aborted_accepts}
 use Rattle.conn_model.specs.declared.class.Class.{Class}
 use Rattle.conn_model.specs.declared.class.Class.TheVariants as of
 use Rattle.conn_model.specs.declared.item.Answer.{Answer}
@@ -16,16 +16,13 @@ use Rattle.conn_model.specs.declared.item.Effect.TheVariants.{Stays, Aborts, End
 use Rattle.conn_model.specs.declared.item.Item.{Item}
 use Rattle.conn_model.specs.declared.item.Refusal.{Refusal}
 use Rattle.conn_model.specs.declared.item.Told.TheVariants as told
-use Rattle.conn_manager.specs.Manages.{Done, send_process}
 use Rattle.conn_manager.specs.Statuses.{Status, retold, set_flag, set_flag_in}
 use Rattle.conn_manager.specs.declared.status.InTransactionStatus.{InTransactionStatus}
 use Rattle.conn_manager.specs.declared.status.TransactionManagerStatus.TheVariants.{Valid, InError}
 use Rattle.conn_reading.specs.Folds.{Level, Stack, alone, IsNested, Nested, HasDepth, HasDepthIn, emptied, doom, doomed_in, written, written_in, is_write_class, after_abort, after_end, after_item, after_items}
-use Rattle.conn_reading.specs.Reading.{heard_of}
+use Rattle.conn_reading.specs.Plainly.{Plainly}
+use Rattle.conn_reading.specs.Reading.{heard_with, Reads}
 use Rattle.conn_reading.specs.Verdicts.{is_plain, runs_class}
-use Rattle.conn_reading.proofs.ItemsRead.{Reads}
-use Rattle.conn_reading.proofs.Plain.{Plainly}
-use Rattle.conn_reading.proofs.Safe.{left_status}
 use Rattle.conn_reading.proofs.Standing.{nests_write, nests_abort}
 
 depth_flagged_in : (b : Bool) (o : Option InTransactionStatus) (n : ℕ) → HasDepthIn o n → HasDepthIn (set_flag_in b o) n
@@ -158,12 +155,19 @@ pub plainly_nests : {A : Type 0} (d : Dialect) (status : A → Status) (S : Stat
     → Nested (status a) end (after_items items k)
 plainly_nests d status S s (Stop x) [] a end k plainly n reads = rw (reads.0, reads.1, plainly) n
 plainly_nests d status S s (Stop x) (i ∷ is) a end k plainly n reads = absurd reads
+plainly_nests d status S s (Tell event p) items a end k plainly n reads = plainly_nests d status S s p items a end k plainly n reads
 plainly_nests d status S s (Ask call text next) [] a end k plainly n reads = absurd reads
 plainly_nests d status S s (Ask call text next) (i ∷ is) a end k plainly n reads =
     let after : State = reads.2.0 in
     let c : is_plain (class i.text) ≡ true = ap (λ (t : List ℕ). is_plain (class t)) reads.1 ∙ plainly.0 in
-    plainly_nests d status (retold d (refusal_of i.answer) (told_of d after) S) after (next (heard_of d after i)) is a end (after_item i k) (plainly.1 (heard_of d after i))
-    (item_nests d S s after k i i.answer refl c n reads.2.1) reads.2.2
-
-pub send_nests : (d : Dialect) (S : Status) (s : State) (text : List ℕ) (items : List Item) (a : Done) (end : State) (k : Stack) → is_plain (class text) ≡ true → Nested S s k → Reads d s (send_process d text S) items a end → Nested a.status end (after_items items k)
-send_nests d S s text items a end k c n reads = plainly_nests d left_status S s (send_process d text S) items a end k (c, λ x. refl) n reads
+    plainly_nests d status (retold d (refusal_of i.answer) (told_of d after) S) after (next (heard_with d after i.answer reads.2.2.0)) is a end (after_item i k) (plainly.1 (heard_with d after i.answer reads.2.2.0))
+    (item_nests d S s after k i i.answer refl c n reads.2.1) reads.2.2.1
+plainly_nests d status S s (Look text next) [] a end k plainly n reads = plainly_nests d status S s (next (given_rows reads.0)) [] a end k (plainly (given_rows reads.0)) n reads.1
+plainly_nests d status S s (Look text next) (i ∷ is) a end k plainly n (inl reads) = plainly_nests d status S s (next (given_rows reads.0)) (i ∷ is) a end k (plainly (given_rows reads.0)) n reads.1
+plainly_nests d status S s (Look text next) (i ∷ is) a end k plainly n (inr reads) =
+    let after : State = reads.3.0 in
+    let stepped : step d s (row_refused reads.0 reads.1) ≡ Some after = subst (λ (x : Item). step d s x ≡ Some after) reads.2 reads.3.1 in
+    let here : Nested (retold d (Some reads.0) (told_of d after) S) after (after_item i k) =
+    subst (λ (x : Item). Nested (retold d (Some reads.0) (told_of d after) S) after (after_item x k)) (sym reads.2)
+    (refused_nests d S s after k (commits Fetch []) reads.0 reads.1 n (step_refused d s [] Fetch [] reads.0 reads.1 after stepped).1) in
+    plainly_nests d status (retold d (Some reads.0) (told_of d after) S) after (next (plain_heard (Some reads.0) (told_of d after))) is a end (after_item i k) (plainly (plain_heard (Some reads.0) (told_of d after))) here reads.3.2

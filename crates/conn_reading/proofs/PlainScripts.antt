@@ -8,16 +8,20 @@ use Rattle.std.proofs.lemmas.List.{take-append-drop}
 use Rattle.std.proofs.lemmas.Slice.Eq.{bytes_eq-Decides}
 use Rattle.conn_model.specs.Classes.{class, begins, is_begin, is_built, is_write, same_text, number_behind}
 use Rattle.conn_model.specs.Numbers.{number}
-use Rattle.conn_script.specs.Grammar.{word_named, connection_alone, act_from, act_of, empty_script, with_command, with_words, next, lines_of, finished, or_bad, judged, script_of}
+use Rattle.conn_script.specs.Drafts.{Draft, empty_draft, command_added, with_refused, can_close, if_closable}
+use Rattle.conn_script.specs.Grammar.{connection_alone, act_from, act_of, with_words, with_text, next, lines_of, judged_last, or_bad, judged, script_of}
 use Rattle.conn_script.specs.Options.{◌>>=◌, guard}
-use Rattle.conn_script.specs.Plans.{refused_of, with_refused}
+use Rattle.conn_script.specs.Plans.{refused_of}
+use Rattle.conn_script.specs.Requests.{request_of}
+use Rattle.conn_script.specs.Spelling.{word_named}
 use Rattle.conn_script.specs.Words.{split_at, is_statement, begins_statement, has_mark}
+use Rattle.conn_script.specs.declared.command.Act.{Act}
 use Rattle.conn_script.specs.declared.command.Act.TheVariants as acts
 use Rattle.conn_script.specs.declared.command.Command.{Command}
 use Rattle.conn_script.specs.declared.command.Script.{Script}
 use Rattle.conn_script.specs.declared.command.Word.{Word}
 use Rattle.conn_script.specs.declared.command.Word.TheVariants as words
-use Rattle.conn_reading.specs.Sessions.{SendsPlain, AllPlain}
+use Rattle.conn_reading.specs.Sessions.{AsksPlain, AllPlain}
 use Rattle.conn_reading.specs.Verdicts.{is_plain}
 
 -- ---- a statement text
@@ -94,6 +98,10 @@ there_bind_if : {A B : Type 0} (P : A → Type 0) (Q : B → Type 0) (o : Option
 there_bind_if P Q None f g h = tt
 there_bind_if P Q (Some x) f g h = h x g
 
+there_map_if : {A B : Type 0} (P : A → Type 0) (Q : B → Type 0) (o : Option A) (f : A → B) → IfThere P o → ((x : A) → P x → Q (f x)) → IfThere Q (option_map f o)
+there_map_if P Q None f g h = tt
+there_map_if P Q (Some x) f g h = h x g
+
 there_map : {A B : Type 0} (Q : B → Type 0) (o : Option A) (f : A → B) → ((x : A) → Q (f x)) → IfThere Q (option_map f o)
 there_map Q None f h = tt
 there_map Q (Some x) f h = h x
@@ -102,52 +110,60 @@ there_guard : {A : Type 0} (P : A → Type 0) (b : Bool) (x : A) → (b ≡ true
 there_guard P true x h = h refl
 there_guard P false x h = tt
 
-act_plain : (word : Word) (rest : Option (List ℕ)) → IfThere SendsPlain (act_from word rest)
-act_plain words.Get rest = there_guard SendsPlain (is_none rest) acts.Get (λ e. tt)
-act_plain words.Put rest = there_map SendsPlain (connection_alone rest) acts.Put (λ n. tt)
+-- the text of an act, where it has one
+abbrev pub ActPlain : Act → Type 0
+ActPlain act = AsksPlain (request_of act)
+
+act_plain : (word : Word) (rest : Option (List ℕ)) → IfThere ActPlain (act_from word rest)
+act_plain words.Get rest = there_guard ActPlain (is_none rest) acts.Get (λ e. tt)
+act_plain words.Put rest = there_map ActPlain (connection_alone rest) acts.Put (λ n. tt)
 act_plain words.Batch rest =
-    there_bind SendsPlain rest _ (λ text. there_bind SendsPlain (number 4294967296 (split_at 32 text).0) _ (λ c. there_bind SendsPlain (split_at 32 text).1 _ (λ statement.
-    there_guard SendsPlain (is_statement statement) (acts.Batch c statement) (statement_plain statement))))
-act_plain words.Begin rest = there_map SendsPlain (connection_alone rest) acts.Begin (λ n. tt)
-act_plain words.Commit rest = there_map SendsPlain (connection_alone rest) acts.Commit (λ n. tt)
-act_plain words.Rollback rest = there_map SendsPlain (connection_alone rest) acts.Rollback (λ n. tt)
+    there_bind ActPlain rest _ (λ text. there_bind ActPlain (number 4294967296 (split_at 32 text).0) _ (λ c. there_bind ActPlain (split_at 32 text).1 _ (λ statement.
+    there_guard ActPlain (is_statement statement) (acts.Batch c statement) (statement_plain statement))))
+act_plain words.Begin rest = there_map ActPlain (connection_alone rest) acts.Begin (λ n. tt)
+act_plain words.Commit rest = there_map ActPlain (connection_alone rest) acts.Commit (λ n. tt)
+act_plain words.Rollback rest = there_map ActPlain (connection_alone rest) acts.Rollback (λ n. tt)
 
 plain-append : (xs ys : List Command) → AllPlain xs → AllPlain ys → AllPlain (xs ++ ys)
 plain-append [] ys h g = g
 plain-append (x ∷ xs) ys h g = (h.0, plain-append xs ys h.1 g)
 
-abbrev pub ScriptPlain : Script → Type 0
-ScriptPlain script = AllPlain script.commands
+-- the draft's script sends plain texts
+abbrev pub DraftPlain : Draft → Type 0
+DraftPlain d = AllPlain d.script.commands
 
-words_plain : (n : ℕ) (script : Script) (line : List ℕ × Option (List ℕ)) → ScriptPlain script → IfThere ScriptPlain (with_words n script line)
-words_plain n script line h = by_word (bytes_eq line.0 (codes "refuse"))
+words_plain : (n : ℕ) (d : Draft) (line : List ℕ × Option (List ℕ)) → DraftPlain d → IfThere DraftPlain (with_words n d line)
+words_plain n d line h = by_word (bytes_eq line.0 (codes "refuse"))
   where
-    by_word : (b : Bool) → IfThere ScriptPlain (if b then (refused_of line.1 >>= with_refused script) else (act_of line.0 line.1 >>= with_command n script))
-    by_word true = there_bind ScriptPlain (refused_of line.1) (with_refused script) (λ r. there_guard ScriptPlain _ _ (λ e. h))
-    by_word false = there_bind_if SendsPlain ScriptPlain (act_of line.0 line.1) (with_command n script) (there_bind SendsPlain (word_named line.0) (λ word. act_from word line.1) (λ word. act_plain word line.1))
-        (λ act g. there_guard ScriptPlain (nat_lt (length script.commands) 1048576) _ (λ e. plain-append script.commands (record { line = n; act = act } ∷ []) h (g, tt)))
+    by_word : (b : Bool) → IfThere DraftPlain (if b then (refused_of line.1 >>= with_refused d) else option_map (command_added n d) (act_of line.0 line.1))
+    by_word true = there_bind DraftPlain (refused_of line.1) (with_refused d) (λ r. there_guard DraftPlain _ _ (λ e. h))
+    by_word false = there_map_if ActPlain DraftPlain (act_of line.0 line.1) (command_added n d) (there_bind ActPlain (word_named line.0) (λ word. act_from word line.1) (λ word. act_plain word line.1))
+        (λ act g. plain-append d.script.commands (record { line = n; act = act } ∷ []) h (g, tt))
 
-next_plain : (n : ℕ) (o : Option Script) (line : List ℕ) → IfThere ScriptPlain o → IfThere ScriptPlain (next n o line)
-next_plain n None line h = there_guard ScriptPlain (bytes_eq line (codes "session sqlite 1 nop nocheck")) empty_script (λ e. tt)
-next_plain n (Some script) line h =
-    elim (is_utf8 line) as (λ b. IfThere ScriptPlain (if b then with_words n script (split_at 32 line) else None)) [
-      | true ↦ words_plain n script (split_at 32 line) h
+text_plain : (n : ℕ) (d : Draft) (line : List ℕ) → DraftPlain d → IfThere DraftPlain (with_text n d line)
+text_plain n d line h = there_bind_if DraftPlain DraftPlain (with_words n d (split_at 32 line)) if_closable (words_plain n d (split_at 32 line) h) (λ e g. there_guard DraftPlain (can_close e) e (λ c. g))
+
+next_plain : (n : ℕ) (o : Option Draft) (line : List ℕ) → IfThere DraftPlain o → IfThere DraftPlain (next n o line)
+next_plain n None line h = there_guard DraftPlain (bytes_eq line (codes "session sqlite 1 nop nocheck")) empty_draft (λ e. tt)
+next_plain n (Some d) line h =
+    elim (is_utf8 line) as (λ b. IfThere DraftPlain (if b then with_text n d line else None)) [
+      | true ↦ text_plain n d line h
       | false ↦ tt
     ]
 
-finished_plain : (n : ℕ) (o : Option Script) (last : List ℕ) (script : Script) → IfThere ScriptPlain o → finished n o last ≡ Ok script → ScriptPlain script
-finished_plain n (Some s) [] script h is = let e : s ≡ script = cc in subst ScriptPlain e h
-finished_plain n (Some s) (b ∷ bs) script h is = absurd (cc)
-finished_plain n None last script h is = absurd (cc)
+last_plain : (n : ℕ) (o : Option Draft) (last : List ℕ) (script : Script) → IfThere DraftPlain o → judged_last n o last ≡ Ok script → AllPlain script.commands
+last_plain n (Some d) [] script h is = let e : d.script ≡ script = cc in subst (λ (s : Script). AllPlain s.commands) e h
+last_plain n (Some d) (b ∷ bs) script h is = absurd (cc)
+last_plain n None last script h is = absurd (cc)
 
-judged_plain : (n : ℕ) (o : Option Script) (lines : List (List ℕ)) (script : Script) → IfThere ScriptPlain o → judged n o lines ≡ Ok script → ScriptPlain script
+judged_plain : (n : ℕ) (o : Option Draft) (lines : List (List ℕ)) (script : Script) → IfThere DraftPlain o → judged n o lines ≡ Ok script → AllPlain script.commands
 judged_plain n o [] script h is = absurd (cc)
-judged_plain n o (last ∷ []) script h is = finished_plain n o last script h is
-judged_plain n o (line ∷ more ∷ lines) script h is = go (next n o line) (next_plain n o line h) is (λ s g e. judged_plain (n + 1) (Some s) (more ∷ lines) script g e)
+judged_plain n o (last ∷ []) script h is = last_plain n o last script h is
+judged_plain n o (line ∷ more ∷ lines) script h is = go (next n o line) (next_plain n o line h) is (λ d g e. judged_plain (n + 1) (Some d) (more ∷ lines) script g e)
   where
-    go : (m : Option Script) → IfThere ScriptPlain m → or_bad n m (λ s. judged (n + 1) (Some s) (more ∷ lines)) ≡ Ok script → ((s : Script) → ScriptPlain s → judged (n + 1) (Some s) (more ∷ lines) ≡ Ok script → ScriptPlain script) → ScriptPlain script
+    go : (m : Option Draft) → IfThere DraftPlain m → or_bad n m (λ d. judged (n + 1) (Some d) (more ∷ lines)) ≡ Ok script → ((d : Draft) → DraftPlain d → judged (n + 1) (Some d) (more ∷ lines) ≡ Ok script → AllPlain script.commands) → AllPlain script.commands
     go None g e rest = absurd (cc)
-    go (Some s) g e rest = rest s g e
+    go (Some d) g e rest = rest d g e
 
 -- a valid script
 pub script_plain : (bytes : List ℕ) (script : Script) → script_of bytes ≡ Ok script → AllPlain script.commands

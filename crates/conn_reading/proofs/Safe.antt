@@ -1,19 +1,22 @@
 -- Every item that a process sends keeps the invariant where the process does.
-use Rattle.std.proofs.Common.{◌≡◌, ℕ, Bool, true, false, ◌||◌, if◌then◌else◌, List, refl, Some, None, Ok, Err}
+use Rattle.std.proofs.Common.{◌≡◌, ℕ, Bool, true, false, ◌||◌, if◌then◌else◌, List, [], refl, Some, None, Ok, Err}
 use Rattle.conn_result.specs.declared.error.Error.TheVariants.{DatabaseError}
 use Rattle.conn_model.specs.Classes.{class}
-use Rattle.conn_model.specs.Process.{Process, Stop, Ask, refusal_of, plain_heard}
+use Rattle.conn_model.specs.Process.{Process, Stop, Ask, Look, Tell, refusal_of, plain_heard, given_rows}
+use Rattle.conn_model.specs.Armed.{Values}
 use Rattle.conn_model.specs.States.{step_refused, State, step_by, commits, told_of, accepts, is_closed}
 use Rattle.conn_model.specs.declared.item.Answer.{Answer}
 use Rattle.conn_model.specs.declared.item.Answer.TheVariants.{Accepted, Refused}
 use Rattle.conn_model.specs.declared.item.Call.{Call}
-use Rattle.conn_model.specs.declared.item.Call.TheVariants.{Exec}
+use Rattle.conn_model.specs.declared.item.Call.TheVariants.{Exec, Fetch}
 use Rattle.conn_model.specs.declared.item.Dialect.{Dialect}
 use Rattle.conn_model.specs.declared.item.Effect.{Effect}
 use Rattle.conn_model.specs.declared.item.Effect.TheVariants.{Stays, Aborts, Ends, Loses}
 use Rattle.conn_model.specs.declared.item.Refusal.{Refusal}
 use Rattle.conn_manager.specs.Manages.{Done, Reply, ask_text}
 use Rattle.conn_manager.specs.Statuses.{Status, retold, reply_of}
+use Rattle.conn_reading.specs.Histories.{left_status}
+use Rattle.conn_reading.specs.Reading.{Beside, heard_with}
 use Rattle.conn_reading.specs.Verdicts.{Part, part_after, fresh, loses, is_rollback_class, runs_class, is_begin_class, Holds}
 use Rattle.conn_reading.proofs.Items.{Refuses, refused_keeps}
 
@@ -22,13 +25,13 @@ module _ {A : Type 0} (d : Dialect) (status : A → Status) where
   -- invariant holds of its status, whatever is answered
   abbrev pub Safe : State → Part → Process A → Type 0
   Safe s p (Stop a) = Holds d (status a) s p
+  Safe s p (Tell event q) = Safe s p q
   Safe s p (Ask call text next) =
       (runs_class is_begin_class call text ≡ true → is_closed s ≡ true)
-      × ((answer : Answer) (after : State) → step_by d s call text answer ≡ Some after → Safe after (part_after p call text answer) (next (plain_heard (refusal_of answer) (told_of d after))))
-
--- the status that a call leaves
-abbrev pub left_status : Done → Status
-left_status a = a.status
+      × ((answer : Answer) (after : State) → step_by d s call text answer ≡ Some after → (b : Beside) → Safe after (part_after p call text answer) (next (heard_with d after answer b)))
+  Safe s p (Look text next) =
+      ((rows : List Values) → Safe s p (next (given_rows rows)))
+      × ((r : Refusal) (e : Effect) (after : State) → step_by d s Fetch [] (Refused r e) ≡ Some after → Safe after (part_after p Fetch [] (Refused r e)) (next (plain_heard (Some r) (told_of d after))))
 
 or-right : (a b : Bool) → b ≡ true → (a || b) ≡ true
 or-right true b e = refl
@@ -54,9 +57,9 @@ pub asks : (d : Dialect) (S : Status) (s : State) (p : Part) (text : List ℕ) (
     → Safe d left_status s p (ask_text d text S next)
 asks d S s p text next closed h accepted refused = (closed, answers)
   where
-    answers : (answer : Answer) (mid : State) → step_by d s Exec text answer ≡ Some mid → Safe d left_status mid (part_after p Exec text answer) (next (reply_of (refusal_of answer)) (retold d (refusal_of answer) (told_of d mid) S))
-    answers Accepted mid is = accepted mid is
-    answers (Refused x e) mid is =
+    answers : (answer : Answer) (mid : State) → step_by d s Exec text answer ≡ Some mid → (b : Beside) → Safe d left_status mid (part_after p Exec text answer) (next (reply_of (refusal_of answer)) (retold d (refusal_of answer) (told_of d mid) S))
+    answers Accepted mid is b = accepted mid is
+    answers (Refused x e) mid is b =
         refused x (retold d (Some x) (told_of d mid) S) mid (part_after p Exec text (Refused x e))
         (refused_keeps d S s mid p (part_after p Exec text (Refused x e)) (commits Exec text) x e (refuses_as p Exec text x e) h (step_refused d s text Exec text x e mid is).1)
         refl (broke_by p text x e)

@@ -11,11 +11,11 @@ use Rattle.conn_model.specs.declared.item.Item.{Item}
 use Rattle.conn_manager.specs.Statuses.{Status, no_depth, at_depth}
 use Rattle.conn_report.specs.declared.entry.Entry.{Entry}
 use Rattle.conn_report.specs.declared.entry.Reply.TheVariants as replies
-use Rattle.conn_script.specs.Grammar.{empty_script}
+use Rattle.conn_script.specs.Drafts.{empty_script}
 use Rattle.conn_script.specs.declared.command.Act.TheVariants as acts
 use Rattle.conn_script.specs.declared.command.Script.{Script}
 use Rattle.conn_script.specs.declared.command.Word.TheVariants as words
-use Rattle.conn_reading.specs.Answered.{Logs, answered}
+use Rattle.conn_reading.specs.Answered.{ServerLogs, answered}
 use Rattle.conn_reading.specs.Seats.{make_entry}
 use Rattle.conn_reading.specs.Sessions.{AllPlain, is_opened, unfolded, fold_entries, EntryPremises}
 use Rattle.conn_reading.proofs.OnSqlite.{lawful_premises}
@@ -38,7 +38,7 @@ item text = record { call = Exec; text = text; answer = Accepted }
 abbrev the_log : List Item
 the_log = item (codes "BEGIN") ∷ item (codes "INSERT a") ∷ item (codes "COMMIT") ∷ []
 
-abbrev the_logs : Logs
+abbrev the_logs : ServerLogs
 the_logs n = if n == 0 then the_log else []
 
 abbrev deep : Status

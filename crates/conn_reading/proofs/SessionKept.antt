@@ -7,12 +7,13 @@ use Rattle.conn_manager.specs.Statuses.{Status, no_depth}
 use Rattle.conn_report.specs.declared.entry.Entry.{Entry}
 use Rattle.conn_report.specs.declared.entry.Reply.{Reply}
 use Rattle.conn_script.specs.declared.command.Word.{Word}
-use Rattle.conn_reading.specs.Answered.{Logs, Progress, Taken}
+use Rattle.conn_reading.specs.Answered.{ServerLogs, Progress, Taken}
 use Rattle.conn_reading.specs.Folds.{Stack, alone, AllKeepLive}
-use Rattle.conn_reading.specs.Histories.{items_of}
-use Rattle.conn_reading.specs.Seats.{Seat}
+use Rattle.conn_reading.specs.Histories.{step_items}
+use Rattle.conn_reading.specs.Seats.{Seat, at_number}
 use Rattle.conn_reading.specs.Sessions.{Each, IsClean, Folded, mark_of, after_word, after_mark, between, after_entry, EntryLive}
 use Rattle.conn_reading.proofs.EachSeat.{held, count}
+use Rattle.conn_reading.proofs.ByNumber.{one_there}
 use Rattle.conn_reading.proofs.Tracks.{Track, IsTrack, no_track, folded, folded_at, between_none}
 
 -- for each connection, by its number, its history
@@ -23,7 +24,7 @@ Tracks = ℕ → Track
 pub record SeatIs (t : Track) (seat : Seat) : Type 0 where
   pub status : t.status ≡ seat.status
   pub state : t.state ≡ seat.state
-  pub mark : length (items_of t.steps) ≡ seat.mark
+  pub mark : length (step_items t.steps) ≡ seat.mark
 
 abbrev pub SeatOf : Tracks → Seat → Type 0
 SeatOf tracks seat = SeatIs (tracks seat.number) seat
@@ -31,18 +32,23 @@ SeatOf tracks seat = SeatIs (tracks seat.number) seat
 abbrev pub IsFree : Seat → Type 0
 IsFree seat = seat.status ≡ no_depth
 
--- each connection is as its history leaves it and has a number of its own, those in slots have no depth, and no server that
--- isn't opened is read
-pub record Keeps (d : Dialect) (logs left : Logs) (tracks : Tracks) (slots out : List Seat) (opened : ℕ) : Type 0 where
+-- the connection of a number is as its history leaves it
+abbrev pub IsAtNumber : Tracks → ℕ → Seat → Type 0
+IsAtNumber tracks n seat = (seat.number ≡ n) × SeatOf tracks seat
+
+-- each connection is as its history leaves it and has a number of its own, those in slots have no depth, those that are out
+-- stand at the places of their numbers, of which each opened server has one, and no server that isn't opened is read
+pub record Keeps (d : Dialect) (logs left : ServerLogs) (tracks : Tracks) (slots : List Seat) (out : List (Option Seat)) (opened : ℕ) : Type 0 where
   pub tracked : (n : ℕ) → IsTrack d (logs n) (left n) (tracks n)
   pub unopened : (n : ℕ) → opened ≤ n → tracks n ≡ no_track
   pub in_slots : Each (SeatOf tracks) slots
   pub free : Each IsFree slots
-  pub in_out : Each (SeatOf tracks) out
-  pub once : (n : ℕ) → count n slots + count n out ≤ 1
-  pub none : (n : ℕ) → opened ≤ n → count n slots + count n out ≡ 0
+  pub places : length out ≡ opened
+  pub in_out : (n : ℕ) (seat : Seat) → at_number n out ≡ Some seat → IsAtNumber tracks n seat
+  pub once : (n : ℕ) → count n slots + one_there (at_number n out) ≤ 1
+  pub none : (n : ℕ) → opened ≤ n → count n slots ≡ 0
 
-abbrev pub ProgressKeeps : Dialect → Logs → Logs → Tracks → Progress → Type 0
+abbrev pub ProgressKeeps : Dialect → ServerLogs → ServerLogs → Tracks → Progress → Type 0
 ProgressKeeps d logs left tracks p = Keeps d logs left tracks (held p.context.slots) p.context.out p.context.opened
 
 -- a history ends with the status, and has read the log up to the mark
@@ -50,17 +56,17 @@ pub record EndsWith (d : Dialect) (log : List Item) (S : Status) (mark : ℕ) (t
   pub left : List Item
   pub tracked : IsTrack d log left t
   pub status : t.status ≡ S
-  pub mark_is : length (items_of t.steps) ≡ mark
+  pub mark_is : length (step_items t.steps) ≡ mark
 
 -- a status comes with a connection and a mark, and is where that connection's history ends
-abbrev pub IsAt : Dialect → Logs → Tracks → Option ℕ → Option Status → Option ℕ → Type 0
+abbrev pub IsAt : Dialect → ServerLogs → Tracks → Option ℕ → Option Status → Option ℕ → Type 0
 IsAt d logs tracks connection None mark = ⊤
 IsAt d logs tracks None (Some S) mark = ⊥
 IsAt d logs tracks (Some n) (Some S) None = ⊥
 IsAt d logs tracks (Some n) (Some S) (Some mark) = EndsWith d (logs n) S mark (tracks n)
 
 -- what an entry says, between the histories before it and after it
-pub record EntrySays (d : Dialect) (logs : Logs) (before after : Tracks) (opened : ℕ) (e : Entry) : Type 0 where
+pub record EntrySays (d : Dialect) (logs : ServerLogs) (before after : Tracks) (opened : ℕ) (e : Entry) : Type 0 where
   pub at : IsAt d logs after e.connection e.status e.mark
   pub clean : IsClean e.word e.reply e.status
   pub folds : (n : ℕ) → after_entry n (logs n) e (folded (before n)) ≡ folded (after n)
@@ -68,7 +74,7 @@ pub record EntrySays (d : Dialect) (logs : Logs) (before after : Tracks) (opened
   pub opened_before : (n : ℕ) → is_some (mark_of n e.connection e.mark) ≡ true → n < opened
 
 -- after a command
-pub record TakenKeeps (d : Dialect) (logs : Logs) (before : Tracks) (opened : ℕ) (t : Taken) : Type 0 where
+pub record TakenKeeps (d : Dialect) (logs : ServerLogs) (before : Tracks) (opened : ℕ) (t : Taken) : Type 0 where
   pub tracks : Tracks
   pub progress : ProgressKeeps d logs t.left tracks t.progress
   pub dialect : t.progress.dialect ≡ d
@@ -85,10 +91,10 @@ only_then n c m P some none = by_case (c == n) refl
 
 -- an entry of a connection that nothing is read of
 still_folds : (n c m : ℕ) (log : List Item) (word : Word) (reply : Reply) (f : Folded) → ((k : Stack) → after_word word reply k ≡ k) → (c ≡ n → m ≡ f.mark) → after_mark log word reply f (mark_of n (Some c) (Some m)) ≡ f
-still_folds n c m log word reply f steady same = only_then n c m (λ (o : Option ℕ). after_mark log word reply f o ≡ f) (λ e. folded_at m f.mark _ f.stack (same e) (steady (between log f m) ∙ between_none log f m (same e))) refl
+still_folds n c m log word reply f steady same = only_then n c m (λ (o : Option ℕ). after_mark log word reply f o ≡ f) (λ e. folded_at f m f.mark _ f.stack (same e) (steady (between log f m) ∙ between_none log f m (same e))) refl
 
 -- of an entry without a mark nothing is said
-pub says_nothing : (d : Dialect) (logs : Logs) (tracks : Tracks) (opened line : ℕ) (word : Word) (connection : Option ℕ) (reply : Reply) → IsClean word reply None
+pub says_nothing : (d : Dialect) (logs : ServerLogs) (tracks : Tracks) (opened line : ℕ) (word : Word) (connection : Option ℕ) (reply : Reply) → IsClean word reply None
     → EntrySays d logs tracks tracks opened (record { line = line; word = word; connection = connection; reply = reply; status = None; mark = None })
 says_nothing d logs tracks opened line word connection reply clean = record {
   at = tt;
@@ -115,13 +121,13 @@ says_nothing d logs tracks opened line word connection reply clean = record {
     never n (Some c) is = no_mark (c == n) is
 
 -- an entry of a connection that is there, and that nothing is read of
-pub says_still : (d : Dialect) (logs left : Logs) (tracks : Tracks) (opened line : ℕ) (word : Word) (reply : Reply) (seat : Seat) → ((n : ℕ) → IsTrack d (logs n) (left n) (tracks n)) → SeatOf tracks seat
+pub says_still : (d : Dialect) (logs left : ServerLogs) (tracks : Tracks) (opened line : ℕ) (word : Word) (reply : Reply) (seat : Seat) → ((n : ℕ) → IsTrack d (logs n) (left n) (tracks n)) → SeatOf tracks seat
     → ((k : Stack) → after_word word reply k ≡ k) → IsClean word reply (Some seat.status) → seat.number < opened
     → EntrySays d logs tracks tracks opened (record { line = line; word = word; connection = Some seat.number; reply = reply; status = Some seat.status; mark = Some seat.mark })
 says_still d logs left tracks opened line word reply seat tracked is steady clean low = record {
   at = record { left = left seat.number; tracked = tracked seat.number; status = is.status; mark_is = is.mark };
   clean = clean;
-  folds = λ n. still_folds n seat.number seat.mark (logs n) word reply (folded (tracks n)) steady (λ e. sym is.mark ∙ ap (λ (k : ℕ). length (items_of (tracks k).steps)) e);
+  folds = λ n. still_folds n seat.number seat.mark (logs n) word reply (folded (tracks n)) steady (λ e. sym is.mark ∙ ap (λ (k : ℕ). length (step_items (tracks k).steps)) e);
   live = λ n h l. l;
   opened_before = λ n. only_then n seat.number seat.mark (λ (o : Option ℕ). is_some o ≡ true → n < opened) (λ e h. subst (λ (k : ℕ). k < opened) e low) (λ h. absurd (cc));
 }

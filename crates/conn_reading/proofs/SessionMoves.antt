@@ -1,25 +1,29 @@
--- A command on a connection is one call more in its history.
-use Rattle.std.proofs.Common.{◌≡◌, ◌≢◌, ℕ, ◌+◌, ◌<◌, true, if◌then◌else◌, List, [], ◌++◌, length, length-append, Option, Some, None, refl, sym, ap, subst, ◌∙◌, arith, inl, inr}
+-- A deed on a connection is one call more in its history.
+use Rattle.std.proofs.Common.{◌≡◌, ◌≢◌, ℕ, ◌+◌, ◌<◌, ◌≤◌, true, if◌then◌else◌, List, [], ◌++◌, length, length-append, length-set, Option, Some, None, refl, sym, ap, subst, ◌∙◌, arith, inl, inr}
 use Rattle.std.specs.Prelude.{◌==◌, slice_set, is_some}
 use Rattle.std.specs.Option.{option_map}
 use Rattle.std.proofs.lemmas.Bool.{cases_eq}
-use Rattle.std.proofs.lemmas.Bool.Decides.{leb_tells}
+use Rattle.conn_model.specs.States.{State}
 use Rattle.conn_model.specs.declared.item.Dialect.{Dialect}
 use Rattle.conn_model.specs.declared.item.Item.{Item}
 use Rattle.conn_manager.specs.Manages.{Done}
+use Rattle.conn_manager.specs.Statuses.{Status}
+use Rattle.conn_report.specs.declared.entry.Reply.{Reply}
 use Rattle.conn_report.specs.declared.entry.Reply.TheVariants as replies
-use Rattle.conn_script.specs.declared.command.Act.{Act}
-use Rattle.conn_reading.specs.Answered.{Logs, Progress, Taken, with_left, process_of, reply_as, seat_after, taken_on, not_out, reads_on}
+use Rattle.conn_script.specs.Requests.{deed_word}
+use Rattle.conn_script.specs.declared.command.Word.{Word}
+use Rattle.conn_script.specs.declared.request.Deed.{Deed}
+use Rattle.conn_reading.specs.Answered.{ServerLogs, Progress, Taken, with_left, seat_after, taken_on, not_out, reads_on}
+use Rattle.conn_reading.specs.Asking.{Outcome, process_of}
 use Rattle.conn_reading.specs.Folds.{Stack, alone, fold_of, after_reply, kind_of, KeepsLive, AllKeepLive}
-use Rattle.conn_reading.specs.Histories as histories
-use Rattle.conn_reading.specs.Histories.{Deed, items_of}
+use Rattle.conn_reading.specs.Histories.{Operation, Step, step_items}
 use Rattle.conn_reading.specs.Reading.{Read, read}
-use Rattle.conn_reading.specs.Seats.{Seat, entry_on, place_of, word_of}
-use Rattle.conn_reading.specs.Sessions.{SendsPlain, CommitsLive, mark_of, after_mark, between, MarkLive}
-use Rattle.conn_reading.proofs.Deeds.{IsCall, reads_call}
-use Rattle.conn_reading.proofs.EachSeat.{held, count, StandsAt, stands_there, at_number, each_at, each_other, each_set, count_at, count-set}
-use Rattle.conn_reading.proofs.ItemsRead.{ReadsFront, reads_front}
-use Rattle.conn_reading.proofs.SessionKept.{Tracks, SeatIs, SeatOf, Keeps, ProgressKeeps, EndsWith, EntrySays, TakenKeeps, says_nothing}
+use Rattle.conn_reading.specs.Seats.{Seat, entry_on, at_number}
+use Rattle.conn_reading.specs.Sessions.{SendsPlain, CommitsLive, after_word, mark_of, after_mark, between, MarkLive}
+use Rattle.conn_reading.proofs.ByNumber.{one_there, at_within, at-set, at-set_other}
+use Rattle.conn_reading.proofs.Deeds.{operation_of, deed_plain, deed_clean, DeedReads, deed_reads}
+use Rattle.conn_reading.proofs.EachSeat.{held, count, each_other}
+use Rattle.conn_reading.proofs.SessionKept.{Tracks, SeatIs, SeatOf, IsAtNumber, Keeps, ProgressKeeps, EndsWith, EntrySays, TakenKeeps, says_nothing}
 use Rattle.conn_reading.proofs.Tracks.{Track, IsTrack, moved, moved_is, moved_count, folded, folded_at, fold-last, live-last, between_is}
 
 -- ---- one number of many
@@ -33,10 +37,10 @@ track_same tracks n t = grind arith
 track_other : (tracks : Tracks) (n k : ℕ) (t : Track) → k ≢ n → with_track tracks n t k ≡ tracks k
 track_other tracks n k t h = grind arith
 
-left_same : (logs : Logs) (n : ℕ) (rest : List Item) → with_left logs n rest n ≡ rest
+left_same : (logs : ServerLogs) (n : ℕ) (rest : List Item) → with_left logs n rest n ≡ rest
 left_same logs n rest = grind arith
 
-left_other : (logs : Logs) (n k : ℕ) (rest : List Item) → k ≢ n → with_left logs n rest k ≡ logs k
+left_other : (logs : ServerLogs) (n k : ℕ) (rest : List Item) → k ≢ n → with_left logs n rest k ≡ logs k
 left_other logs n k rest h = grind arith
 
 mark_same : (n m : ℕ) → mark_of n (Some n) (Some m) ≡ Some m
@@ -48,21 +52,23 @@ mark_other n c m h = grind arith
 -- ---- one call more
 
 -- its word and its reply do to the fold what the call does
-move_folds : (log left : List Item) (t : Track) (act : Act) (deed : Deed) (used : List Item) (r : Read Done) (mark : ℕ) → IsCall act deed → log ≡ items_of t.steps ++ (used ++ left) → mark ≡ length (items_of t.steps) + length used
-    → after_mark log (word_of act) (reply_as r.value.reply) (folded t) (Some mark) ≡ folded (moved t deed used r)
-move_folds log left t act deed used r mark call all is =
-    let step : histories.Step = record { deed = deed; items = used; answer = r.value } in
-    folded_at mark (length (items_of (moved t deed used r).steps)) _ (fold_of (moved t deed used r).steps (alone []))
-    (is ∙ sym (moved_count t deed used r))
-    (call.stack r.value.reply (between log (folded t) mark) ∙ ap (λ (k : Stack). after_reply (kind_of deed) r.value.reply k) (between_is log used left t mark all is) ∙ sym (fold-last t.steps step (alone [])))
+move_folds : (log left : List Item) (t : Track) (word : Word) (operation : Operation) (reply : Reply) (used : List Item) (r : Read Done) (mark : ℕ)
+    → ((k : Stack) → after_word word reply k ≡ after_reply (kind_of operation) r.value.reply k) → log ≡ step_items t.steps ++ (used ++ left) → mark ≡ length (step_items t.steps) + length used
+    → after_mark log word reply (folded t) (Some mark) ≡ folded (moved t operation used r)
+move_folds log left t word operation reply used r mark stack all is =
+    let step : Step = record { operation = operation; items = used; answer = r.value } in
+    folded_at (folded t) mark (length (step_items (moved t operation used r).steps)) _ (fold_of (moved t operation used r).steps (alone []))
+    (is ∙ sym (moved_count t operation used r))
+    (stack (between log (folded t) mark) ∙ ap (λ (k : Stack). after_reply (kind_of operation) r.value.reply k) (between_is log used left t mark all is) ∙ sym (fold-last t.steps step (alone [])))
 
-move_live : (log left : List Item) (t : Track) (act : Act) (deed : Deed) (used : List Item) (r : Read Done) (mark : ℕ) → IsCall act deed → log ≡ items_of t.steps ++ (used ++ left) → mark ≡ length (items_of t.steps) + length used
-    → CommitsLive (word_of act) (reply_as r.value.reply) (between log (folded t) mark) → AllKeepLive t.steps (alone []) → AllKeepLive (moved t deed used r).steps (alone [])
-move_live log left t act deed used r mark call all is live h =
-    let step : histories.Step = record { deed = deed; items = used; answer = r.value } in
-    live-last t.steps step (alone []) h (subst (λ (k : Stack). KeepsLive (kind_of deed) r.value.reply k) (between_is log used left t mark all is) (call.live r.value.reply (between log (folded t) mark) live))
+move_live : (log left : List Item) (t : Track) (word : Word) (operation : Operation) (reply : Reply) (used : List Item) (r : Read Done) (mark : ℕ)
+    → ((k : Stack) → CommitsLive word reply k → KeepsLive (kind_of operation) r.value.reply k) → log ≡ step_items t.steps ++ (used ++ left) → mark ≡ length (step_items t.steps) + length used
+    → CommitsLive word reply (between log (folded t) mark) → AllKeepLive t.steps (alone []) → AllKeepLive (moved t operation used r).steps (alone [])
+move_live log left t word operation reply used r mark lives all is live h =
+    let step : Step = record { operation = operation; items = used; answer = r.value } in
+    live-last t.steps step (alone []) h (subst (λ (k : Stack). KeepsLive (kind_of operation) r.value.reply k) (between_is log used left t mark all is) (lives (between log (folded t) mark) live))
 
-module _ (d : Dialect) (logs left : Logs) (tracks : Tracks) (n : ℕ) (rest : List Item) (after : Track) where
+module _ (d : Dialect) (logs left : ServerLogs) (tracks : Tracks) (n : ℕ) (rest : List Item) (after : Track) where
   -- the histories of the others stay
   moves_tracked : ((k : ℕ) → IsTrack d (logs k) (left k) (tracks k)) → IsTrack d (logs n) rest after → (k : ℕ) → IsTrack d (logs k) (with_left left n rest k) (with_track tracks n after k)
   moves_tracked h g k = elim (cases_eq k n) [
@@ -82,109 +88,132 @@ module _ (d : Dialect) (logs left : Logs) (tracks : Tracks) (n : ℕ) (rest : Li
     | inr apart ↦ subst (λ (o : Option ℕ). P k o (with_track tracks n after k)) (sym (mark_other k n mark apart)) (subst (λ (t : Track). P k None t) (sym (track_other tracks n k after (λ e. apart (sym e)))) (others k))
   ]
 
--- ---- a command on a connection that is there
+-- ---- a deed on a connection that is there
 
 -- what is known of it
-record Found (d : Dialect) (logs left : Logs) (tracks : Tracks) (n : ℕ) (act : Act) (deed : Deed) (out : List Seat) (at : ℕ) (seat : Seat) (r : Read Done) : Type 0 where
-  pub stands : StandsAt n out at seat
+record Found (d : Dialect) (left : ServerLogs) (tracks : Tracks) (n : ℕ) (deed : Deed) (out : List (Option Seat)) (seat : Seat) (r : Read Outcome) : Type 0 where
+  pub there : at_number n out ≡ Some seat
   pub numbered : seat.number ≡ n
   pub is : SeatOf tracks seat
-  pub front : ReadsFront d (tracks seat.number).state (histories.process_of d (tracks seat.number).status deed) (left seat.number) r
+  pub reads : DeedReads d (tracks seat.number).state (tracks seat.number).status deed (left seat.number) r
 
-find : (d : Dialect) (logs left : Logs) (tracks : Tracks) (p : Progress) (n at : ℕ) (act : Act) (deed : Deed) (seat : Seat) (r : Read Done) → IsCall act deed → p.dialect ≡ d → ProgressKeeps d logs left tracks p → place_of n p.context.out 0 ≡ Some (at, seat)
-    → read p.dialect seat.state (process_of p.dialect seat.status act) (left seat.number) ≡ Some r → Found d logs left tracks n act deed p.context.out at seat r
-find d logs left tracks p n at act deed seat r call dialect h place is =
-    let stands : StandsAt n p.context.out at seat = stands_there n p.context.out at seat place in
-    let here : SeatOf tracks seat = each_at (SeatOf tracks) n p.context.out at seat stands h.in_out in
-    let t : Track = tracks seat.number in
+find : (d : Dialect) (logs left : ServerLogs) (tracks : Tracks) (p : Progress) (n : ℕ) (deed : Deed) (seat : Seat) (r : Read Outcome) → p.dialect ≡ d → ProgressKeeps d logs left tracks p → at_number n p.context.out ≡ Some seat
+    → read p.dialect p.armed seat.state (process_of p.dialect deed seat.status) (left seat.number) ≡ Some r → Found d left tracks n deed p.context.out seat r
+find d logs left tracks p n deed seat r dialect h there is =
+    let here : IsAtNumber tracks n seat = h.in_out n seat there in
+    let reads : DeedReads p.dialect seat.state seat.status deed (left seat.number) r = deed_reads p.dialect p.armed seat.state seat.status deed (left seat.number) r is in
     record {
-      stands = stands;
-      numbered = at_number n p.context.out at seat stands;
-      is = here;
-      front = reads_front d t.state (histories.process_of d t.status deed) (left seat.number) r (reads_call act deed p.dialect d seat.state t.state seat.status t.status (left seat.number) r call dialect here.state here.status is);
+      there = there;
+      numbered = here.0;
+      is = here.1;
+      reads = subst (λ (x : Dialect). DeedReads x (tracks seat.number).state (tracks seat.number).status deed (left seat.number) r) dialect
+          (subst (λ (x : State). DeedReads p.dialect x (tracks seat.number).status deed (left seat.number) r) (sym here.1.state)
+          (subst (λ (x : Status). DeedReads p.dialect seat.state x deed (left seat.number) r) (sym here.1.status) reads));
     }
 
-module _ (d : Dialect) (logs left : Logs) (tracks : Tracks) (p : Progress) (n at : ℕ) (act : Act) (deed : Deed) (seat : Seat) (r : Read Done) (call : IsCall act deed) (plain : SendsPlain act) (h : ProgressKeeps d logs left tracks p)
-    (f : Found d logs left tracks n act deed p.context.out at seat r) where
+module _ (d : Dialect) (logs left : ServerLogs) (tracks : Tracks) (p : Progress) (n : ℕ) (deed : Deed) (seat : Seat) (r : Read Outcome) (plain : SendsPlain deed) (h : ProgressKeeps d logs left tracks p)
+    (f : Found d left tracks n deed p.context.out seat r) where
+  -- what the call read
+  abbrev done_read : Read Done
+  done_read = record { value = f.reads.answer; state = r.state; left = r.left }
+
   abbrev m : ℕ
   m = seat.number
 
   abbrev t : Track
   t = tracks m
 
+  abbrev out : List (Option Seat)
+  out = p.context.out
+
   abbrev after : Seat
   after = seat_after seat (length (left m)) r
 
   abbrev next : Track
-  next = moved t deed f.front.used r
+  next = moved t (operation_of deed) f.reads.used done_read
 
   abbrev moved_tracks : Tracks
   moved_tracks = with_track tracks m next
 
-  all_read : logs m ≡ items_of t.steps ++ (f.front.used ++ r.left)
-  all_read = (h.tracked m).all ∙ ap (λ (l : List Item). items_of t.steps ++ l) f.front.all
+  all_read : logs m ≡ step_items t.steps ++ (f.reads.used ++ r.left)
+  all_read = (h.tracked m).all ∙ ap (λ (l : List Item). step_items t.steps ++ l) f.reads.all
 
-  count_read : after.mark ≡ length (items_of t.steps) + length f.front.used
-  count_read = omega (arith, f.is.mark, ap length f.front.all, length-append f.front.used r.left)
+  count_read : after.mark ≡ length (step_items t.steps) + length f.reads.used
+  count_read = omega (arith, f.is.mark, ap length f.reads.all, length-append f.reads.used r.left)
 
   next_is : IsTrack d (logs m) r.left next
-  next_is = moved_is d deed (logs m) (left m) t r f.front (call.plain plain) (h.tracked m)
+  next_is = moved_is d (operation_of deed) (logs m) (left m) t f.reads.used done_read f.reads.all f.reads.each (deed_plain deed plain) (h.tracked m)
 
   after_is : SeatOf moved_tracks after
-  after_is = subst (λ (x : Track). SeatIs x after) (sym (track_same tracks m next)) (record { status = refl; state = refl; mark = moved_count t deed f.front.used r ∙ sym count_read })
-
-  more : 0 < count n p.context.out
-  more = count_at n p.context.out at seat f.stands
+  after_is = subst (λ (x : Track). SeatIs x after) (sym (track_same tracks m next)) (record { status = f.reads.status; state = refl; mark = moved_count t (operation_of deed) f.reads.used done_read ∙ sym count_read })
 
   low : m < p.context.opened
-  low = elim (leb_tells p.context.opened m) [
-    | inl l ↦ absurd (omega (arith, h.none n (omega (arith, l.1, f.numbered)), more))
-    | inr l ↦ l.1
-  ]
+  low = omega (arith, f.numbered, h.places, at_within n out seat f.there)
+
+  there : n < length out
+  there = at_within n out seat f.there
 
   other : (x : Seat) → x.number ≢ n → SeatOf tracks x → SeatOf moved_tracks x
   other x apart g = moves_other d logs left tracks m r.left next x (λ e. apart (e ∙ f.numbered)) g
 
-  on_keeps : Keeps d logs (with_left left m r.left) moved_tracks (held p.context.slots) (slice_set p.context.out at after) p.context.opened
+  none_held : count n (held p.context.slots) ≡ 0
+  none_held = omega (arith, h.once n, ap one_there f.there)
+
+  out_at : (k : ℕ) (x : Seat) → at_number k (slice_set out n (Some after)) ≡ Some x → IsAtNumber moved_tracks k x
+  out_at k x e = elim (cases_eq k n) [
+    | inl same ↦ (let is : after ≡ x = cc (sym (at-set n out (Some after) there) ∙ subst (λ (j : ℕ). at_number j (slice_set out n (Some after)) ≡ Some x) same e) in
+        subst (λ (y : Seat). IsAtNumber moved_tracks k y) is (f.numbered ∙ sym same, after_is))
+    | inr apart ↦ (let before : IsAtNumber tracks k x = h.in_out k x (sym (at-set_other k n out (Some after) apart) ∙ e) in (before.0, other x (λ g. apart (sym before.0 ∙ g)) before.1))
+  ]
+
+  out_once : (k : ℕ) → count k (held p.context.slots) + one_there (at_number k (slice_set out n (Some after))) ≤ 1
+  out_once k = elim (cases_eq k n) [
+    | inl same ↦ subst (λ (j : ℕ). count j (held p.context.slots) + one_there (at_number j (slice_set out n (Some after))) ≤ 1) (sym same) (omega (arith, none_held, ap one_there (at-set n out (Some after) there)))
+    | inr apart ↦ omega (arith, h.once k, ap one_there (at-set_other k n out (Some after) apart))
+  ]
+
+  on_keeps : Keeps d logs (with_left left m r.left) moved_tracks (held p.context.slots) (slice_set out n (Some after)) p.context.opened
   on_keeps = record {
     tracked = moves_tracked d logs left tracks m r.left next h.tracked next_is;
     unopened = λ k l. track_other tracks m k next (λ e. absurd (omega (arith, low, l, e))) ∙ h.unopened k l;
-    in_slots = each_other (SeatOf tracks) (SeatOf moved_tracks) n (held p.context.slots) other (omega (arith, h.once n, more)) h.in_slots;
+    in_slots = each_other (SeatOf tracks) (SeatOf moved_tracks) n (held p.context.slots) other none_held h.in_slots;
     free = h.free;
-    in_out = each_set (SeatOf tracks) (SeatOf moved_tracks) n p.context.out at seat after f.stands other (omega (arith, h.once n)) after_is h.in_out;
-    once = λ k. omega (arith, h.once k, count-set k n p.context.out at seat after f.stands f.numbered);
-    none = λ k l. omega (arith, h.none k l, count-set k n p.context.out at seat after f.stands f.numbered);
+    places = length-set out n (Some after) ∙ h.places;
+    in_out = out_at;
+    once = out_once;
+    none = h.none;
   }
 
-  on_says : (line : ℕ) → EntrySays d logs tracks moved_tracks p.context.opened (entry_on line (word_of act) (reply_as r.value.reply) after)
+  on_says : (line : ℕ) → EntrySays d logs tracks moved_tracks p.context.opened (entry_on line (deed_word deed) r.value.reply after)
   on_says line = record {
-    at = subst (EndsWith d (logs m) r.value.status after.mark) (sym (track_same tracks m next)) (record { left = r.left; tracked = next_is; status = refl; mark_is = moved_count t deed f.front.used r ∙ sym count_read });
-    clean = call.clean (reply_as r.value.reply) (Some r.value.status);
-    folds = moves_each d logs left tracks m r.left next (λ k o x. after_mark (logs k) (word_of act) (reply_as r.value.reply) (folded (tracks k)) o ≡ folded x) after.mark (λ k. refl)
-        (move_folds (logs m) r.left t act deed f.front.used r after.mark call all_read count_read);
-    live = moves_each d logs left tracks m r.left next (λ k o x. MarkLive (logs k) (word_of act) (reply_as r.value.reply) (folded (tracks k)) o → AllKeepLive (tracks k).steps (alone []) → AllKeepLive x.steps (alone [])) after.mark (λ k l g. g)
-        (move_live (logs m) r.left t act deed f.front.used r after.mark call all_read count_read);
+    at = subst (EndsWith d (logs m) r.value.status after.mark) (sym (track_same tracks m next)) (record { left = r.left; tracked = next_is; status = f.reads.status; mark_is = moved_count t (operation_of deed) f.reads.used done_read ∙ sym count_read });
+    clean = deed_clean deed r.value.reply (Some r.value.status);
+    folds = moves_each d logs left tracks m r.left next (λ k o x. after_mark (logs k) (deed_word deed) r.value.reply (folded (tracks k)) o ≡ folded x) after.mark (λ k. refl)
+        (move_folds (logs m) r.left t (deed_word deed) (operation_of deed) r.value.reply f.reads.used done_read after.mark f.reads.stack all_read count_read);
+    live = moves_each d logs left tracks m r.left next (λ k o x. MarkLive (logs k) (deed_word deed) r.value.reply (folded (tracks k)) o → AllKeepLive (tracks k).steps (alone []) → AllKeepLive x.steps (alone [])) after.mark (λ k l g. g)
+        (move_live (logs m) r.left t (deed_word deed) (operation_of deed) r.value.reply f.reads.used done_read after.mark f.reads.live all_read count_read);
     opened_before = λ k. moves_each d logs left tracks m r.left next (λ j o x. is_some o ≡ true → j < p.context.opened) after.mark (λ j e. absurd (cc)) (λ e. low) k;
   }
 
 -- it is read
-pub on_keeps_all : (d : Dialect) (logs left : Logs) (tracks : Tracks) (p : Progress) (line n : ℕ) (act : Act) (deed : Deed) (t : Taken) (o : Option (ℕ × Seat)) → IsCall act deed → SendsPlain act → p.dialect ≡ d → ProgressKeeps d logs left tracks p → place_of n p.context.out 0 ≡ o
-    → reads_on p left line act n o ≡ Some t → TakenKeeps d logs tracks p.context.opened t
-on_keeps_all d logs left tracks p line n act deed t None call plain dialect h place is =
-    let e : not_out p left line act n ≡ t = cc in
-    subst (TakenKeeps d logs tracks p.context.opened) e (record { tracks = tracks; progress = h; dialect = dialect; grows = omega arith; entry = says_nothing d logs tracks p.context.opened line (word_of act) (Some n) replies.NotOut (call.clean replies.NotOut None) })
-on_keeps_all d logs left tracks p line n act deed t (Some (at, seat)) call plain dialect h place is =
-    by_read (read p.dialect seat.state (process_of p.dialect seat.status act) (left seat.number)) refl is
+pub on_keeps_all : (d : Dialect) (logs left : ServerLogs) (tracks : Tracks) (p : Progress) (line n : ℕ) (deed : Deed) (t : Taken) (o : Option Seat) → SendsPlain deed → p.dialect ≡ d → ProgressKeeps d logs left tracks p → at_number n p.context.out ≡ o
+    → reads_on p left line (deed_word deed) deed n o ≡ Some t → TakenKeeps d logs tracks p.context.opened t
+on_keeps_all d logs left tracks p line n deed t None plain dialect h there is =
+    let e : not_out p left line (deed_word deed) n ≡ t = cc in
+    subst (TakenKeeps d logs tracks p.context.opened) e
+    (record { tracks = tracks; progress = h; dialect = dialect; grows = omega arith; entry = says_nothing d logs tracks p.context.opened line (deed_word deed) (Some n) replies.NotOut (deed_clean deed replies.NotOut None) })
+on_keeps_all d logs left tracks p line n deed t (Some seat) plain dialect h there is =
+    by_read (read p.dialect p.armed seat.state (process_of p.dialect deed seat.status) (left seat.number)) refl is
   where
-    by_read : (o : Option (Read Done)) → read p.dialect seat.state (process_of p.dialect seat.status act) (left seat.number) ≡ o → option_map (taken_on p left line act at seat) o ≡ Some t → TakenKeeps d logs tracks p.context.opened t
+    by_read : (o : Option (Read Outcome)) → read p.dialect p.armed seat.state (process_of p.dialect deed seat.status) (left seat.number) ≡ o → option_map (taken_on p left line (deed_word deed) n seat) o ≡ Some t → TakenKeeps d logs tracks p.context.opened t
     by_read None e i = absurd (cc)
     by_read (Some r) e i =
-        let same : taken_on p left line act at seat r ≡ t = cc in
-        let f : Found d logs left tracks n act deed p.context.out at seat r = find d logs left tracks p n at act deed seat r call dialect h place e in
+        let same : taken_on p left line (deed_word deed) n seat r ≡ t = cc in
+        let f : Found d left tracks n deed p.context.out seat r = find d logs left tracks p n deed seat r dialect h there e in
         subst (TakenKeeps d logs tracks p.context.opened) same (record {
-          tracks = moved_tracks d logs left tracks p n at act deed seat r call plain h f;
-          progress = on_keeps d logs left tracks p n at act deed seat r call plain h f;
+          tracks = moved_tracks d logs left tracks p n deed seat r plain h f;
+          progress = on_keeps d logs left tracks p n deed seat r plain h f;
           dialect = dialect;
           grows = omega arith;
-          entry = on_says d logs left tracks p n at act deed seat r call plain h f line;
+          entry = on_says d logs left tracks p n deed seat r plain h f line;
         })

@@ -1,5 +1,5 @@
 -- The histories along all commands of a session.
-use Rattle.std.proofs.Common.{◌≡◌, ℕ, zero, suc, ◌<◌, ◌≤◌, Bool, true, false, ◌&&◌, ◌||◌, if◌then◌else◌, List, [], ◌∷◌, Option, Some, None, refl, sym, ap, subst, ◌∙◌, arith, inl, inr}
+use Rattle.std.proofs.Common.{◌≡◌, ℕ, zero, suc, ◌<◌, ◌≤◌, Bool, true, false, ◌&&◌, ◌||◌, if◌then◌else◌, List, [], ◌∷◌, length, nat_eq, eqb-true, Option, Some, None, refl, sym, ap, subst, ◌∙◌, arith, inl, inr}
 use Rattle.std.specs.Prelude.{is_some}
 use Rattle.std.specs.List.{list_any}
 use Rattle.std.specs.Option.{option_map}
@@ -9,16 +9,15 @@ use Rattle.conn_model.specs.States.{Idle}
 use Rattle.conn_model.specs.declared.item.Dialect.{Dialect}
 use Rattle.conn_model.specs.declared.item.Item.{Item}
 use Rattle.conn_report.specs.declared.entry.Entry.{Entry}
-use Rattle.conn_script.specs.declared.command.Act.{Act}
-use Rattle.conn_script.specs.declared.command.Act.TheVariants as acts
+use Rattle.conn_script.specs.Requests.{request_of}
 use Rattle.conn_script.specs.declared.command.Command.{Command}
 use Rattle.conn_script.specs.declared.command.Script.{Script}
-use Rattle.conn_reading.specs.Answered.{Logs, Progress, Taken, Run, taken_get, taken_put, reads, reads_all, with_entry, is_nil, all_read, whole, started, answered}
+use Rattle.conn_script.specs.declared.request.Request.{Request}
+use Rattle.conn_script.specs.declared.request.Request.TheVariants.{Get, Put, On}
+use Rattle.conn_reading.specs.Answered.{ServerLogs, Progress, Taken, Run, taken_get, taken_put, reads, reads_all, with_entry, all_read, whole, started, answered}
 use Rattle.conn_reading.specs.Folds.{alone, AllKeepLive, refuses_transaction, SetsInOpen}
-use Rattle.conn_reading.specs.Histories.{Begin, Commit, Rollback, Batch}
-use Rattle.conn_reading.specs.Seats.{place_of}
-use Rattle.conn_reading.specs.Sessions.{SendsPlain, AllPlain, EachRecorded, EachClean, Folded, mark_of, is_opened, fold_entries, EntriesLive, MarkNested, EachNested}
-use Rattle.conn_reading.proofs.Deeds.{batch_call, begin_call, commit_call, rollback_call}
+use Rattle.conn_reading.specs.Seats.{at_number}
+use Rattle.conn_reading.specs.Sessions.{AsksPlain, AllPlain, EachRecorded, EachClean, Folded, mark_of, is_opened, fold_entries, EntriesLive, MarkNested, EachNested}
 use Rattle.conn_reading.proofs.SessionNests.{at_recorded, at_nested}
 use Rattle.conn_reading.proofs.SessionKept.{Tracks, ProgressKeeps, TakenKeeps}
 use Rattle.conn_reading.proofs.SessionMoves.{on_keeps_all}
@@ -26,18 +25,16 @@ use Rattle.conn_reading.proofs.SessionSlots.{get_keeps, put_keeps}
 use Rattle.conn_reading.proofs.Tracks.{IsTrack, no_track, is_no_track, folded}
 
 -- one command
-reads_keeps : (d : Dialect) (logs left : Logs) (tracks : Tracks) (p : Progress) (line : ℕ) (act : Act) (t : Taken) → SendsPlain act → p.dialect ≡ d → ProgressKeeps d logs left tracks p → reads p left line act ≡ Some t → TakenKeeps d logs tracks p.context.opened t
-reads_keeps d logs left tracks p line acts.Get t plain dialect h is =
+reads_keeps : (d : Dialect) (logs left : ServerLogs) (tracks : Tracks) (p : Progress) (line : ℕ) (request : Request) (t : Taken) → AsksPlain request → p.dialect ≡ d → ProgressKeeps d logs left tracks p → reads p left line request ≡ Some t
+    → TakenKeeps d logs tracks p.context.opened t
+reads_keeps d logs left tracks p line Get t plain dialect h is =
     let e : taken_get p left line p.context.slots ≡ t = cc in subst (TakenKeeps d logs tracks p.context.opened) e (get_keeps d logs left tracks p line dialect h)
-reads_keeps d logs left tracks p line (acts.Put n) t plain dialect h is =
-    let e : taken_put p left line n (place_of n p.context.out 0) ≡ t = cc in subst (TakenKeeps d logs tracks p.context.opened) e (put_keeps d logs left tracks p line n (place_of n p.context.out 0) refl dialect h)
-reads_keeps d logs left tracks p line (acts.Batch n text) t plain dialect h is = on_keeps_all d logs left tracks p line n (acts.Batch n text) (Batch text) t (place_of n p.context.out 0) (batch_call n text) plain dialect h refl is
-reads_keeps d logs left tracks p line (acts.Begin n) t plain dialect h is = on_keeps_all d logs left tracks p line n (acts.Begin n) Begin t (place_of n p.context.out 0) (begin_call n) plain dialect h refl is
-reads_keeps d logs left tracks p line (acts.Commit n) t plain dialect h is = on_keeps_all d logs left tracks p line n (acts.Commit n) Commit t (place_of n p.context.out 0) (commit_call n) plain dialect h refl is
-reads_keeps d logs left tracks p line (acts.Rollback n) t plain dialect h is = on_keeps_all d logs left tracks p line n (acts.Rollback n) Rollback t (place_of n p.context.out 0) (rollback_call n) plain dialect h refl is
+reads_keeps d logs left tracks p line (Put n) t plain dialect h is =
+    let e : taken_put p left line n (at_number n p.context.out) ≡ t = cc in subst (TakenKeeps d logs tracks p.context.opened) e (put_keeps d logs left tracks p line n (at_number n p.context.out) refl dialect h)
+reads_keeps d logs left tracks p line (On n deed) t plain dialect h is = on_keeps_all d logs left tracks p line n deed t (at_number n p.context.out) plain dialect h refl is
 
 -- what the entries say, between the histories before them and after them
-pub record EntriesSay (d : Dialect) (logs : Logs) (before after : Tracks) (opened : ℕ) (entries : List Entry) : Type 0 where
+pub record EntriesSay (d : Dialect) (logs : ServerLogs) (before after : Tracks) (opened : ℕ) (entries : List Entry) : Type 0 where
   pub recorded : EachRecorded d logs entries
   pub clean : EachClean entries
   pub folds : (n : ℕ) → fold_entries n (logs n) entries (folded (before n)) ≡ folded (after n)
@@ -46,14 +43,14 @@ pub record EntriesSay (d : Dialect) (logs : Logs) (before after : Tracks) (opene
       → EachNested d n (logs n) entries (folded (before n))
   pub opened_before : (n : ℕ) → is_opened n entries ≡ true → n < opened
 
-record RunKeeps (d : Dialect) (logs : Logs) (before : Tracks) (opened : ℕ) (run : Run) : Type 0 where
+record RunKeeps (d : Dialect) (logs : ServerLogs) (before : Tracks) (opened : ℕ) (run : Run) : Type 0 where
   pub tracks : Tracks
   pub progress : ProgressKeeps d logs run.left tracks run.progress
   pub grows : opened ≤ run.progress.context.opened
   pub entries : EntriesSay d logs before tracks run.progress.context.opened run.entries
 
 -- one entry, and those of the commands after it
-first_keeps : (d : Dialect) (logs : Logs) (before : Tracks) (opened : ℕ) (t : Taken) (rest : Run) → (first : TakenKeeps d logs before opened t) → RunKeeps d logs first.tracks t.progress.context.opened rest → RunKeeps d logs before opened (with_entry t.entry rest)
+first_keeps : (d : Dialect) (logs : ServerLogs) (before : Tracks) (opened : ℕ) (t : Taken) (rest : Run) → (first : TakenKeeps d logs before opened t) → RunKeeps d logs first.tracks t.progress.context.opened rest → RunKeeps d logs before opened (with_entry t.entry rest)
 first_keeps d logs before opened t rest first more = record {
   tracks = more.tracks;
   progress = more.progress;
@@ -77,7 +74,7 @@ first_keeps d logs before opened t rest first more = record {
     by_entry n true e is = omega (arith, first.entry.opened_before n e, more.grows)
     by_entry n false e is = more.entries.opened_before n is
 
-run_keeps : (d : Dialect) (logs left : Logs) (tracks : Tracks) (p : Progress) (commands : List Command) (run : Run) → AllPlain commands → p.dialect ≡ d → ProgressKeeps d logs left tracks p → reads_all p left commands ≡ Some run → RunKeeps d logs tracks p.context.opened run
+run_keeps : (d : Dialect) (logs left : ServerLogs) (tracks : Tracks) (p : Progress) (commands : List Command) (run : Run) → AllPlain commands → p.dialect ≡ d → ProgressKeeps d logs left tracks p → reads_all p left commands ≡ Some run → RunKeeps d logs tracks p.context.opened run
 run_keeps d logs left tracks p [] run plain dialect h is =
     let first : Run = record { entries = []; progress = p; left = left } in
     let e : first ≡ run = cc in
@@ -88,8 +85,8 @@ run_keeps d logs left tracks p [] run plain dialect h is =
       entries = record { recorded = tt; clean = tt; folds = λ n. refl; live = λ n l g. g; nested = λ n none opens l g. tt; opened_before = λ n o. absurd (cc) };
     })
 run_keeps d logs left tracks p (c ∷ cs) run plain dialect h is =
-    option_and_then_some (λ (t : Taken). option_map (with_entry t.entry) (reads_all t.progress t.left cs)) (reads p left c.line c.act) run is (λ t one more.
-    (let first = reads_keeps d logs left tracks p c.line c.act t plain.0 dialect h one in
+    option_and_then_some (λ (t : Taken). option_map (with_entry t.entry) (reads_all t.progress t.left cs)) (reads p left c.line (request_of c.act)) run is (λ t one more.
+    (let first = reads_keeps d logs left tracks p c.line (request_of c.act) t plain.0 dialect h one in
     by_rest t first (reads_all t.progress t.left cs) more (λ rest e. run_keeps d logs t.left first.tracks t.progress cs rest plain.1 first.dialect first.progress e) refl))
   where
     by_rest : (t : Taken) → (first : TakenKeeps d logs tracks p.context.opened t) → (o : Option Run) → option_map (with_entry t.entry) o ≡ Some run
@@ -105,34 +102,34 @@ run_keeps d logs left tracks p (c ∷ cs) run plain dialect h is =
 abbrev pub no_tracks : Tracks
 no_tracks n = no_track
 
-started_keeps : (script : Script) (logs : Logs) → ProgressKeeps script.dialect logs logs no_tracks (started script)
-started_keeps script logs = record { tracked = λ n. is_no_track script.dialect (logs n); unopened = λ n l. refl; in_slots = tt; free = tt; in_out = tt; once = λ n. omega arith; none = λ n l. refl }
+started_keeps : (script : Script) (logs : ServerLogs) → ProgressKeeps script.dialect logs logs no_tracks (started script)
+started_keeps script logs = record { tracked = λ n. is_no_track script.dialect (logs n); unopened = λ n l. refl; in_slots = tt; free = tt; places = refl; in_out = λ n seat e. absurd (cc); once = λ n. omega arith; none = λ n l. refl }
 
-is_nil_empty : (l : List Item) → is_nil l ≡ true → l ≡ []
-is_nil_empty [] h = refl
-is_nil_empty (i ∷ is) h = absurd (cc)
+none_empty : (l : List Item) → nat_eq (length l) 0 ≡ true → l ≡ []
+none_empty [] h = refl
+none_empty (i ∷ is) h = absurd (omega (arith, eqb-true (length (i ∷ is)) 0 h))
 
 -- nothing is left of a server that was opened
-left_none : (m n : ℕ) (left : Logs) → n < m → all_read m left ≡ true → left n ≡ []
+left_none : (m n : ℕ) (left : ServerLogs) → n < m → all_read m left ≡ true → left n ≡ []
 left_none zero n left l h = absurd (omega (arith, l))
-left_none (suc m) n left l h = by_test (is_nil (left m)) (all_read m left) refl refl h (λ k. left_none m n left k)
+left_none (suc m) n left l h = by_test (nat_eq (length (left m)) 0) (all_read m left) refl refl h (λ k. left_none m n left k)
   where
-    by_test : (a b : Bool) → is_nil (left m) ≡ a → all_read m left ≡ b → (a && b) ≡ true → (n < m → all_read m left ≡ true → left n ≡ []) → left n ≡ []
+    by_test : (a b : Bool) → nat_eq (length (left m)) 0 ≡ a → all_read m left ≡ b → (a && b) ≡ true → (n < m → all_read m left ≡ true → left n ≡ []) → left n ≡ []
     by_test true true e f g below = elim (leb_tells m n) [
-      | inl at ↦ (let same : m ≡ n = omega (arith, at.1, l) in subst (λ (k : ℕ). left k ≡ []) same (is_nil_empty (left m) e))
+      | inl at ↦ (let same : m ≡ n = omega (arith, at.1, l) in subst (λ (k : ℕ). left k ≡ []) same (none_empty (left m) e))
       | inr less ↦ below less.1 f
     ]
     by_test true false e f g below = absurd (cc)
     by_test false b e f g below = absurd (cc)
 
 -- what the entries of a session say, and that the history of each server that was opened has all of its log
-pub record SessionSays (d : Dialect) (logs : Logs) (entries : List Entry) : Type 0 where
+pub record SessionSays (d : Dialect) (logs : ServerLogs) (entries : List Entry) : Type 0 where
   pub tracks : Tracks
   pub opened : ℕ
   pub entries_say : EntriesSay d logs no_tracks tracks opened entries
   pub ended : (n : ℕ) → n < opened → IsTrack d (logs n) [] (tracks n)
 
-pub answered_says : (script : Script) (logs : Logs) (entries : List Entry) → AllPlain script.commands → answered script logs ≡ Some entries → SessionSays script.dialect logs entries
+pub answered_says : (script : Script) (logs : ServerLogs) (entries : List Entry) → AllPlain script.commands → answered script logs ≡ Some entries → SessionSays script.dialect logs entries
 answered_says script logs entries plain is =
     option_and_then_some whole (reads_all (started script) logs script.commands) entries is (λ run all some.
     by_test (all_read run.progress.context.opened run.left) run refl some (run_keeps script.dialect logs logs no_tracks (started script) script.commands run plain refl (started_keeps script logs) all))

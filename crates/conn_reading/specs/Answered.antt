@@ -1,85 +1,75 @@
 -- What the finished logs of a session's servers answer to its commands.
-use Rattle.std.specs.Prelude.{ℕ, ◌+◌, ◌-◌, ◌^◌, ◌==◌, ◌&&◌, min, nat_eq, zero, suc, ℤ, negsuc, Bool, true, false, List, [], ◌∷◌, ◌++◌, length, slice_set, remove, Option, Some, None, Ok, Err, if◌then◌else◌}
+use Rattle.std.specs.Prelude.{ℕ, ◌+◌, ◌-◌, ◌^◌, ◌==◌, ◌&&◌, min, nat_eq, zero, suc, ℤ, negsuc, Bool, true, List, [], ◌∷◌, ◌++◌, length, slice_set, Option, Some, None, if◌then◌else◌}
 use Rattle.std.specs.Option.{option_map, option_and_then}
 use Rattle.conn_result.specs.declared.error.ConnectionError.TheVariants.{BadConnection}
-use Rattle.conn_model.specs.Process.{Process, Stop}
+use Rattle.conn_model.specs.Armed.{Armed}
 use Rattle.conn_model.specs.States.{Idle}
 use Rattle.conn_model.specs.declared.item.Dialect.{Dialect}
 use Rattle.conn_model.specs.declared.item.Item.{Item}
 use Rattle.conn_model.specs.declared.plan.PlanLine.{PlanLine}
 use Rattle.conn_server.specs.Connected.{planned_at}
-use Rattle.conn_manager.specs.Manages.{Done, done, Reply as Answer, send_process, begin_process, commit_process, rollback_process}
-use Rattle.conn_manager.specs.Statuses.{Status, no_depth}
+use Rattle.conn_manager.specs.Statuses.{no_depth}
 use Rattle.conn_report.specs.declared.entry.Entry.{Entry}
-use Rattle.conn_report.specs.declared.entry.Reply.{Reply}
 use Rattle.conn_report.specs.declared.entry.Reply.TheVariants as replies
-use Rattle.conn_script.specs.declared.command.Act.{Act}
-use Rattle.conn_script.specs.declared.command.Act.TheVariants as acts
+use Rattle.conn_script.specs.Requests.{request_of, deed_word}
 use Rattle.conn_script.specs.declared.command.Command.{Command}
 use Rattle.conn_script.specs.declared.command.Script.{Script}
+use Rattle.conn_script.specs.declared.command.Word.{Word}
 use Rattle.conn_script.specs.declared.command.Word.TheVariants as words
+use Rattle.conn_script.specs.declared.request.Deed.{Deed}
+use Rattle.conn_script.specs.declared.request.Request.{Request}
+use Rattle.conn_script.specs.declared.request.Request.TheVariants.{Get, Put, On}
+use Rattle.conn_reading.specs.Asking.{Outcome, process_of}
 use Rattle.conn_reading.specs.Reading.{Read, read}
-use Rattle.conn_reading.specs.Seats.{Seat, Context, at_first, entry_on, entry_without, place_of, put_reply, put_slot, word_of}
+use Rattle.conn_reading.specs.Seats.{Seat, Context, at_first, entry_on, entry_without, at_number, put_reply, put_slot}
 
 -- for each server, by its number, the items that aren't read yet
-abbrev pub Logs : Type 0
-Logs = ℕ → List Item
+abbrev pub ServerLogs : Type 0
+ServerLogs = ℕ → List Item
 
--- where the reading stands: the connections, the attempts to open one so far, the plan, and what the servers are
+-- where the reading stands: the connections, the attempts to open one so far, the plan, the rows that servers are armed
+-- with, and what the servers are
 pub record Progress : Type 0 where
   pub context : Context
   pub attempts : ℕ
   pub plan : List PlanLine
+  pub armed : List Armed
   pub dialect : Dialect
 
 -- an entry, where the reading stands after it, and the items that are left
 pub record Taken : Type 0 where
   pub entry : Entry
   pub progress : Progress
-  pub left : Logs
+  pub left : ServerLogs
 
 -- what one command took
-abbrev pub taken : Entry → Progress → Logs → Taken
+abbrev pub taken : Entry → Progress → ServerLogs → Taken
 taken entry progress left = record { entry = entry; progress = progress; left = left }
 
 -- the items of one server that are left
-abbrev pub with_left : Logs → ℕ → List Item → Logs
+abbrev pub with_left : ServerLogs → ℕ → List Item → ServerLogs
 with_left logs n rest k = if k == n then rest else logs k
 
 -- ---- a command on a connection
 
--- what it asks of the connection's server; `get` and `put` ask nothing
-abbrev pub process_of : Dialect → Status → Act → Process Done
-process_of d s acts.Get = Stop (done (Ok tt) s)
-process_of d s (acts.Put n) = Stop (done (Ok tt) s)
-process_of d s (acts.Batch n text) = send_process d text s
-process_of d s (acts.Begin n) = begin_process d s
-process_of d s (acts.Commit n) = commit_process d s
-process_of d s (acts.Rollback n) = rollback_process d s
-
--- the reply that a call's answer stands for
-abbrev pub reply_as : Answer → Reply
-reply_as (Ok u) = replies.Ok
-reply_as (Err e) = replies.Error e
-
 -- the connection after its items were read, of which there were so many before
-abbrev pub seat_after : Seat → ℕ → Read Done → Seat
+abbrev pub seat_after : Seat → ℕ → Read Outcome → Seat
 seat_after seat count r = record seat { status = r.value.status; mark = seat.mark + (count - length r.left); state = r.state }
 
--- the connection stays in its place
-abbrev pub taken_on : Progress → Logs → ℕ → Act → ℕ → Seat → Read Done → Taken
-taken_on p logs line act at seat r =
+-- the connection stays out, as its items leave it
+abbrev pub taken_on : Progress → ServerLogs → ℕ → Word → ℕ → Seat → Read Outcome → Taken
+taken_on p logs line word n seat r =
     let after = seat_after seat (length (logs seat.number)) r in
-    taken (entry_on line (word_of act) (reply_as r.value.reply) after) (record p { context = record p.context { out = slice_set p.context.out at after } }) (with_left logs seat.number r.left)
+    taken (entry_on line word r.value.reply after) (record p { context = record p.context { out = slice_set p.context.out n (Some after) } }) (with_left logs seat.number r.left)
 
 -- a connection that isn't handed out
-abbrev pub not_out : Progress → Logs → ℕ → Act → ℕ → Taken
-not_out p logs line act n = taken (entry_without line (word_of act) (Some n) replies.NotOut) p logs
+abbrev pub not_out : Progress → ServerLogs → ℕ → Word → ℕ → Taken
+not_out p logs line word n = taken (entry_without line word (Some n) replies.NotOut) p logs
 
--- the next items of the connection's log are those that the command asks
-abbrev pub reads_on : Progress → Logs → ℕ → Act → ℕ → Option (ℕ × Seat) → Option Taken
-reads_on p logs line act n None = Some (not_out p logs line act n)
-reads_on p logs line act n (Some (at, seat)) = option_map (taken_on p logs line act at seat) (read p.dialect seat.state (process_of p.dialect seat.status act) (logs seat.number))
+-- the next items of the connection's log are those that the deed asks
+abbrev pub reads_on : Progress → ServerLogs → ℕ → Word → Deed → ℕ → Option Seat → Option Taken
+reads_on p logs line word deed n None = Some (not_out p logs line word n)
+reads_on p logs line word deed n (Some seat) = option_map (taken_on p logs line word n seat) (read p.dialect p.armed seat.state (process_of p.dialect deed seat.status) (logs seat.number))
 
 -- ---- get and put, which read no item
 
@@ -96,58 +86,50 @@ abbrev pub new_seat : ℕ → Seat
 new_seat n = record { number = n; status = no_depth; mark = 0; state = Idle [] }
 
 -- an empty slot in front is filled by the server of the least number not used yet, or goes to the back
-abbrev pub taken_attempt : Progress → Logs → ℕ → List (Option Seat) → Option ℤ → Taken
+abbrev pub taken_attempt : Progress → ServerLogs → ℕ → List (Option Seat) → Option ℤ → Taken
 taken_attempt p logs line rest (Some code) = taken (entry_without line words.Get None (replies.Pool (BadConnection code))) (attempted p (record p.context { slots = rest ++ None ∷ [] })) logs
 taken_attempt p logs line rest None =
     let seat = new_seat p.context.opened in
-    taken (entry_on line words.Get replies.Ok seat) (attempted p (record { slots = rest; out = p.context.out ++ seat ∷ []; opened = p.context.opened + 1 })) logs
+    taken (entry_on line words.Get replies.Ok seat) (attempted p (record p.context { slots = rest; out = p.context.out ++ Some seat ∷ []; opened = p.context.opened + 1 })) logs
 
 -- `get` by the slots: none is free, the front one is empty, or it has a connection
-abbrev pub taken_get : Progress → Logs → ℕ → List (Option Seat) → Taken
+abbrev pub taken_get : Progress → ServerLogs → ℕ → List (Option Seat) → Taken
 taken_get p logs line [] = taken (entry_without line words.Get None replies.NoneFree) p logs
 taken_get p logs line (None ∷ rest) = taken_attempt p logs line rest (refusal_at p)
-taken_get p logs line (Some seat ∷ rest) = taken (entry_on line words.Get replies.Ok seat) (record p { context = record p.context { slots = rest; out = p.context.out ++ seat ∷ [] } }) logs
+taken_get p logs line (Some seat ∷ rest) = taken (entry_on line words.Get replies.Ok seat) (record p { context = record p.context { slots = rest; out = slice_set p.context.out seat.number (Some seat) } }) logs
 
 -- `put`: the slot goes to the back, with the connection where it is kept
-abbrev pub taken_put : Progress → Logs → ℕ → ℕ → Option (ℕ × Seat) → Taken
-taken_put p logs line n None = not_out p logs line (acts.Put n) n
-taken_put p logs line n (Some (at, seat)) = taken (entry_on line words.Put (put_reply seat.status) seat) (record p { context = record p.context { slots = p.context.slots ++ put_slot seat ∷ []; out = remove p.context.out at } }) logs
+abbrev pub taken_put : Progress → ServerLogs → ℕ → ℕ → Option Seat → Taken
+taken_put p logs line n None = not_out p logs line words.Put n
+taken_put p logs line n (Some seat) = taken (entry_on line words.Put (put_reply seat.status) seat) (record p { context = record p.context { slots = p.context.slots ++ put_slot seat ∷ []; out = slice_set p.context.out n None } }) logs
 
 -- ---- all commands
 
 -- one command, where the items that it asks come next and are allowed
-abbrev pub reads : Progress → Logs → ℕ → Act → Option Taken
-reads p logs line acts.Get = Some (taken_get p logs line p.context.slots)
-reads p logs line (acts.Put n) = Some (taken_put p logs line n (place_of n p.context.out 0))
-reads p logs line (acts.Batch n text) = reads_on p logs line (acts.Batch n text) n (place_of n p.context.out 0)
-reads p logs line (acts.Begin n) = reads_on p logs line (acts.Begin n) n (place_of n p.context.out 0)
-reads p logs line (acts.Commit n) = reads_on p logs line (acts.Commit n) n (place_of n p.context.out 0)
-reads p logs line (acts.Rollback n) = reads_on p logs line (acts.Rollback n) n (place_of n p.context.out 0)
+abbrev pub reads : Progress → ServerLogs → ℕ → Request → Option Taken
+reads p logs line Get = Some (taken_get p logs line p.context.slots)
+reads p logs line (Put n) = Some (taken_put p logs line n (at_number n p.context.out))
+reads p logs line (On n deed) = reads_on p logs line (deed_word deed) deed n (at_number n p.context.out)
 
 -- the entries of some commands, where the reading stands after them, and the items that are left
 pub record Run : Type 0 where
   pub entries : List Entry
   pub progress : Progress
-  pub left : Logs
+  pub left : ServerLogs
 
 -- one entry in front
 abbrev pub with_entry : Entry → Run → Run
 with_entry entry run = record run { entries = entry ∷ run.entries }
 
 -- the commands in order, as far as each can be read
-abbrev pub reads_all : Progress → Logs → List Command → Option Run
+abbrev pub reads_all : Progress → ServerLogs → List Command → Option Run
 reads_all p logs [] = Some (record { entries = []; progress = p; left = logs })
-reads_all p logs (command ∷ commands) = option_and_then (λ (t : Taken). option_map (with_entry t.entry) (reads_all t.progress t.left commands)) (reads p logs command.line command.act)
+reads_all p logs (command ∷ commands) = option_and_then (λ (t : Taken). option_map (with_entry t.entry) (reads_all t.progress t.left commands)) (reads p logs command.line (request_of command.act))
 
--- nothing of the first n logs is left
-abbrev pub is_nil : List Item → Bool
-is_nil [] = true
-is_nil (item ∷ items) = false
-
--- each of them is read to its end
-abbrev pub all_read : ℕ → Logs → Bool
+-- each of the first n logs is read to its end
+abbrev pub all_read : ℕ → ServerLogs → Bool
 all_read zero logs = true
-all_read (suc n) logs = is_nil (logs n) && all_read n logs
+all_read (suc n) logs = nat_eq (length (logs n)) 0 && all_read n logs
 
 -- the entries, where nothing of the logs of opened servers is left
 abbrev pub whole : Run → Option (List Entry)
@@ -155,16 +137,16 @@ whole run = if all_read run.progress.context.opened run.left then Some run.entri
 
 -- nothing is open yet
 abbrev pub started : Script → Progress
-started script = record { context = at_first; attempts = 0; plan = script.plan; dialect = script.dialect }
+started script = record { context = at_first; attempts = 0; plan = script.plan; armed = []; dialect = script.dialect }
 
 -- a script's commands over the logs of its servers, by their numbers
-abbrev pub run_of : Script → Logs → Option Run
+abbrev pub run_of : Script → ServerLogs → Option Run
 run_of script logs = reads_all (started script) logs script.commands
 
 -- Answered: the entries that the logs answer to a script's commands, where they do and all items are read
-abbrev pub answered : Script → Logs → Option (List Entry)
+abbrev pub answered : Script → ServerLogs → Option (List Entry)
 answered script logs = option_and_then whole (run_of script logs)
 
 -- how many servers the logs say were opened
-abbrev pub servers_opened : Script → Logs → Option ℕ
+abbrev pub servers_opened : Script → ServerLogs → Option ℕ
 servers_opened script logs = option_map (λ (run : Run). run.progress.context.opened) (run_of script logs)

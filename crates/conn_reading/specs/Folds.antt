@@ -14,7 +14,7 @@ use Rattle.conn_manager.specs.Manages.{Reply}
 use Rattle.conn_manager.specs.Statuses.{Status}
 use Rattle.conn_manager.specs.declared.status.InTransactionStatus.{InTransactionStatus}
 use Rattle.conn_manager.specs.declared.status.TransactionManagerStatus.TheVariants.{Valid, InError}
-use Rattle.conn_reading.specs.Histories.{Deed, Begin, BeginBy, Commit, Rollback, Batch, Step, items_of}
+use Rattle.conn_reading.specs.Histories.{Operation, Begin, BeginBy, Commit, Rollback, Asks, Step, step_items}
 use Rattle.conn_reading.specs.Verdicts.{is_refused_by, runs_class}
 
 -- ---- the stack
@@ -122,12 +122,12 @@ after_abort Accepted k = k
 after_abort (Refused r e) k = if aborts e then doom k else k
 
 -- an accepted item that runs a write
-abbrev pub writes_by : Item → Bool
-writes_by i = is_accepted i.answer && runs_class is_write_class i.call i.text
+abbrev pub runs_write : Item → Bool
+runs_write i = is_accepted i.answer && runs_class is_write_class i.call i.text
 
 -- its text is appended to the list on top
 abbrev pub after_write : Item → Stack → Stack
-after_write i k = if writes_by i then written i.text k else k
+after_write i k = if runs_write i then written i.text k else k
 
 -- an item that ends the transaction, or loses the server, drops all levels
 abbrev pub after_end : Answer → Stack → Stack
@@ -161,16 +161,16 @@ after_reply Sends (Ok u) k = k
 after_reply kind (Err e) k = k
 
 -- the kind of a call
-abbrev pub kind_of : Deed → Kind
+abbrev pub kind_of : Operation → Kind
 kind_of Begin = Begins
 kind_of (BeginBy text) = Begins
 kind_of Commit = Commits
 kind_of Rollback = Rolls
-kind_of (Batch text) = Sends
+kind_of (Asks f) = Sends
 
 -- first its items, then its reply
 abbrev pub after_step : Step → Stack → Stack
-after_step e k = after_reply (kind_of e.deed) e.answer.reply (after_items e.items k)
+after_step e k = after_reply (kind_of e.operation) e.answer.reply (after_items e.items k)
 
 -- Fold: the stack after the calls
 abbrev pub fold_of : List Step → Stack → Stack
@@ -214,13 +214,13 @@ KeepsLive Sends r k = ⊤
 -- no doomed level is kept along the calls
 abbrev pub AllKeepLive : List Step → Stack → Type 0
 AllKeepLive [] k = ⊤
-AllKeepLive (e ∷ es) k = KeepsLive (kind_of e.deed) e.answer.reply (after_items e.items k) × AllKeepLive es (after_step e k)
+AllKeepLive (e ∷ es) k = KeepsLive (kind_of e.operation) e.answer.reply (after_items e.items k) × AllKeepLive es (after_step e k)
 
 -- no text of a transaction is refused, no savepoint is set in an idle server, and no level in which the transaction was
 -- aborted is kept
 pub record FoldPremises (d : Dialect) (steps : List Step) : Type 0 where
-  pub none_refused : list_any refuses_transaction (items_of steps) ≡ false
-  pub none_in_idle : SetsInOpen d (Idle []) (items_of steps)
+  pub none_refused : list_any refuses_transaction (step_items steps) ≡ false
+  pub none_in_idle : SetsInOpen d (Idle []) (step_items steps)
   pub live : AllKeepLive steps (alone [])
 
 -- ---- the stack is what the server holds

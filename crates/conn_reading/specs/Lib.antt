@@ -1,9 +1,11 @@
 pub mod Calls
 pub mod Reading
+pub mod Verdicts
+pub mod Plainly
+pub mod Asking
 pub mod Seats
 pub mod Answered
 pub mod Readings
-pub mod Verdicts
 pub mod Histories
 pub mod Folds
 pub mod Sessions

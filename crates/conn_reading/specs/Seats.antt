@@ -1,15 +1,12 @@
 -- The connections of a session, as its report shows them.
-use Rattle.std.specs.Prelude.{ℕ, ◌+◌, ◌==◌, Bool, false, List, [], ◌∷◌, Option, Some, None, is_none, if◌then◌else◌}
+use Rattle.std.specs.Prelude.{ℕ, zero, suc, Bool, false, List, [], ◌∷◌, Option, Some, None, is_none, if◌then◌else◌}
 use Rattle.conn_model.specs.States.{State}
 use Rattle.conn_manager.specs.Statuses.{Status}
 use Rattle.conn_manager.specs.declared.status.TransactionManagerStatus.TheVariants.{Valid, InError}
 use Rattle.conn_report.specs.declared.entry.Entry.{Entry}
 use Rattle.conn_report.specs.declared.entry.Reply.{Reply}
 use Rattle.conn_report.specs.declared.entry.Reply.TheVariants as replies
-use Rattle.conn_script.specs.declared.command.Act.{Act}
-use Rattle.conn_script.specs.declared.command.Act.TheVariants as acts
 use Rattle.conn_script.specs.declared.command.Word.{Word}
-use Rattle.conn_script.specs.declared.command.Word.TheVariants as words
 
 -- a connection: its number, its tracked status, how many items its server got, and the state that these items give
 pub record Seat : Type 0 where
@@ -18,11 +15,11 @@ pub record Seat : Type 0 where
   pub mark : ℕ
   pub state : State
 
--- the slots of the pool, front first, each empty or with a kept connection; the connections that are handed out;
--- and how many servers were opened
+-- the slots of the pool, front first, each empty or with a kept connection; the connections that are handed out, each at the
+-- place of its number; and how many servers were opened
 pub record Context : Type 0 where
   pub slots : List (Option Seat)
-  pub out : List Seat
+  pub out : List (Option Seat)
   pub opened : ℕ
 
 -- one empty slot
@@ -41,10 +38,11 @@ entry_on line word reply seat = make_entry line word (Some seat.number) reply (S
 abbrev pub entry_without : ℕ → Word → Option ℕ → Reply → Entry
 entry_without line word connection reply = make_entry line word connection reply None None
 
--- the place, from this one on, and the seat of a connection that is out
-abbrev pub place_of : ℕ → List Seat → ℕ → Option (ℕ × Seat)
-place_of n [] at = None
-place_of n (seat ∷ seats) at = if seat.number == n then Some (at, seat) else place_of n seats (at + 1)
+-- the connection of a number, where it is out
+abbrev pub at_number : {A : Type 0} → ℕ → List (Option A) → Option A
+at_number n [] = None
+at_number zero (seat ∷ seats) = seat
+at_number (suc n) (seat ∷ seats) = at_number n seats
 
 -- the pool keeps a connection whose status is valid and without a depth
 abbrev pub is_kept : Status → Bool
@@ -58,12 +56,3 @@ put_reply status = if is_kept status then replies.Kept else replies.Closed
 -- what a connection that is given back leaves in its slot
 abbrev pub put_slot : Seat → Option Seat
 put_slot seat = if is_kept seat.status then Some seat else None
-
--- the first word of a command
-abbrev pub word_of : Act → Word
-word_of acts.Get = words.Get
-word_of (acts.Put n) = words.Put
-word_of (acts.Batch n text) = words.Batch
-word_of (acts.Begin n) = words.Begin
-word_of (acts.Commit n) = words.Commit
-word_of (acts.Rollback n) = words.Rollback

@@ -9,14 +9,17 @@ use Rattle.conn_manager.specs.Statuses.{Status, no_depth}
 use Rattle.conn_report.specs.declared.entry.Entry.{Entry}
 use Rattle.conn_report.specs.declared.entry.Reply.{Reply}
 use Rattle.conn_report.specs.declared.entry.Reply.TheVariants as replies
-use Rattle.conn_script.specs.declared.command.Act.{Act}
-use Rattle.conn_script.specs.declared.command.Act.TheVariants as acts
+use Rattle.conn_script.specs.Requests.{request_of}
 use Rattle.conn_script.specs.declared.command.Command.{Command}
 use Rattle.conn_script.specs.declared.command.Word.{Word}
 use Rattle.conn_script.specs.declared.command.Word.TheVariants as words
-use Rattle.conn_reading.specs.Answered.{Logs}
+use Rattle.conn_script.specs.declared.request.Deed.{Deed}
+use Rattle.conn_script.specs.declared.request.Deed.TheVariants as deeds
+use Rattle.conn_script.specs.declared.request.Request.{Request}
+use Rattle.conn_script.specs.declared.request.Request.TheVariants.{Get, Put, On}
+use Rattle.conn_reading.specs.Answered.{ServerLogs}
 use Rattle.conn_reading.specs.Folds.{Stack, alone, pushed, merged, dropped, after_items, refuses_transaction, SetsInOpen, IsDoomed, NestedMeaning}
-use Rattle.conn_reading.specs.Histories.{Step, items_of, IsHistory}
+use Rattle.conn_reading.specs.Histories.{Step, step_items, IsHistory}
 use Rattle.conn_reading.specs.Verdicts.{is_plain, Verdict, StandsOver}
 
 -- it holds of each
@@ -27,47 +30,51 @@ Each P (x ∷ xs) = P x × Each P xs
 -- ---- the texts of a script
 
 -- a text that is sent asks nothing of a transaction
-abbrev pub SendsPlain : Act → Type 0
-SendsPlain acts.Get = ⊤
-SendsPlain (acts.Put n) = ⊤
-SendsPlain (acts.Batch n text) = is_plain (class text) ≡ true
-SendsPlain (acts.Begin n) = ⊤
-SendsPlain (acts.Commit n) = ⊤
-SendsPlain (acts.Rollback n) = ⊤
+abbrev pub SendsPlain : Deed → Type 0
+SendsPlain (deeds.Batch text) = is_plain (class text) ≡ true
+SendsPlain deeds.Begin = ⊤
+SendsPlain deeds.Commit = ⊤
+SendsPlain deeds.Rollback = ⊤
 
--- so does every text of the commands
+-- so is that of a command, where it has one
+abbrev pub AsksPlain : Request → Type 0
+AsksPlain Get = ⊤
+AsksPlain (Put n) = ⊤
+AsksPlain (On n deed) = SendsPlain deed
+
+-- and every text of the commands
 abbrev pub AllPlain : List Command → Type 0
-AllPlain commands = Each (λ (c : Command). SendsPlain c.act) commands
+AllPlain commands = Each (λ (c : Command). AsksPlain (request_of c.act)) commands
 
 -- ---- the log up to the mark
 
 -- a status comes with a connection and a mark, and is so to that server's log up to the mark
-abbrev pub IsMarked : (Status → List Item → Type 0) → Logs → Option ℕ → Option Status → Option ℕ → Type 0
+abbrev pub IsMarked : (Status → List Item → Type 0) → ServerLogs → Option ℕ → Option Status → Option ℕ → Type 0
 IsMarked P logs connection None mark = ⊤
 IsMarked P logs None (Some S) mark = ⊥
 IsMarked P logs (Some n) (Some S) None = ⊥
 IsMarked P logs (Some n) (Some S) (Some mark) = P S (take mark (logs n))
 
 -- each status is so to its server's log up to its mark
-abbrev pub EachMarked : (Status → List Item → Type 0) → Logs → List Entry → Type 0
+abbrev pub EachMarked : (Status → List Item → Type 0) → ServerLogs → List Entry → Type 0
 EachMarked P logs entries = Each (λ (e : Entry). IsMarked P logs e.connection e.status e.mark) entries
 
 -- the log is that of a history of a connection, which ends with the status
 pub record IsRecorded (d : Dialect) (S : Status) (log : List Item) : Type 0 where
   pub steps : List Step
-  pub is_log : log ≡ items_of steps
+  pub is_log : log ≡ step_items steps
   pub is_history : IsHistory d steps S
 
 -- each status is that of a history
-abbrev pub EachRecorded : Dialect → Logs → List Entry → Type 0
+abbrev pub EachRecorded : Dialect → ServerLogs → List Entry → Type 0
 EachRecorded d logs entries = EachMarked (IsRecorded d) logs entries
 
 -- each status is borne out
-abbrev pub EachVerdict : Dialect → Logs → List Entry → Type 0
+abbrev pub EachVerdict : Dialect → ServerLogs → List Entry → Type 0
 EachVerdict d logs entries = EachMarked (Verdict d) logs entries
 
 -- each depth that is tracked stands over its server
-abbrev pub EachStandsOver : Dialect → Logs → List Entry → Type 0
+abbrev pub EachStandsOver : Dialect → ServerLogs → List Entry → Type 0
 EachStandsOver d logs entries = EachMarked (StandsOver d) logs entries
 
 -- ---- connections that are handed out
@@ -116,7 +123,7 @@ between log f mark = after_items (take (mark - f.mark) (drop f.mark log)) f.stac
 -- first the items up to the mark, then the reply
 abbrev pub after_mark : List Item → Word → Reply → Folded → Option ℕ → Folded
 after_mark log word reply f None = f
-after_mark log word reply f (Some mark) = record { mark = mark; stack = after_word word reply (between log f mark) }
+after_mark log word reply f (Some mark) = record f { mark = mark; stack = after_word word reply (between log f mark) }
 
 -- after an entry of any connection
 abbrev pub after_entry : ℕ → List Item → Entry → Folded → Folded

@@ -10,68 +10,91 @@ ghost use Rattle.conn_manager.specs.Statuses.{Status};
 ghost use Rattle.conn_report.specs.declared.entry.Entry.{Entry};
 ghost use Rattle.conn_script.specs.Grammar.{script_of};
 ghost use Rattle.conn_script.specs.declared.command.Script.{Script};
-ghost use Rattle.conn_reading.specs.Answered.{Logs, answered};
+ghost use Rattle.conn_reading.specs.Answered.{ServerLogs, answered};
 ghost use Rattle.conn_reading.specs.Verdicts.{Verdict, StandsOver};
 ghost use Rattle.conn_reading.specs.Folds.{alone, fold_of, FoldPremises, NestedMeaning, refuses_transaction};
-ghost use Rattle.conn_reading.specs.Histories.{Step, items_of, IsHistory};
+ghost use Rattle.conn_reading.specs.Histories.{Step, step_items, IsHistory};
 ghost use Rattle.conn_reading.specs.Sessions.{EachRecorded, EachVerdict, EachStandsOver, EachClean, EntryPremises, EachNested, is_opened, unfolded, fold_entries};
 
 /// After any calls of a new connection its status is borne out by its server's log.
 pub fn status_is_borne_out()
-    ensures { (d : Dialect) (steps : List Step) (S : Status) → IsHistory d steps S → Verdict d S (items_of steps) }
+    ensures { (d : Dialect) (steps : List Step) (S : Status)
+        → IsHistory d steps S → Verdict d S (step_items steps) }
 {}
 
 /// After any calls of a new connection the depth that is tracked stands over its server.
 pub fn depth_stands_over_the_server()
-    ensures { (d : Dialect) (steps : List Step) (S : Status) → IsHistory d steps S → StandsOver d S (items_of steps) }
+    ensures { (d : Dialect) (steps : List Step) (S : Status)
+        → IsHistory d steps S → StandsOver d S (step_items steps) }
 {}
 
 /// After any calls of a new connection its server holds the stack of the fold, where no text of a transaction was refused,
 /// no savepoint was set in an idle server, and no level in which the transaction was aborted was kept.
 pub fn server_holds_the_stack()
-    ensures { (d : Dialect) (steps : List Step) (S : Status) → IsHistory d steps S → FoldPremises d steps → NestedMeaning d S (items_of steps) (fold_of steps (alone [])) }
+    ensures { (d : Dialect) (steps : List Step) (S : Status)
+        → IsHistory d steps S → FoldPremises d steps
+        → NestedMeaning d S (step_items steps) (fold_of steps (alone [])) }
 {}
 
 /// So the writes that the server keeps are the fold of the calls.
 pub fn kept_writes_are_the_fold()
-    ensures { (d : Dialect) (steps : List Step) (S : Status) → IsHistory d steps S → FoldPremises d steps → option_map kept (state_of d (items_of steps)) ≡ Some (fold_of steps (alone [])).lowest }
+    ensures { (d : Dialect) (steps : List Step) (S : Status)
+        → IsHistory d steps S → FoldPremises d steps
+        → option_map kept (state_of d (step_items steps)) ≡ Some (fold_of steps (alone [])).lowest }
 {}
 
 /// Each status that a session's entries show is what a history of its connection ends with, and the server's log up to the
 /// entry's mark is the log of that history.
 pub fn entries_are_recorded()
-    ensures { (bytes : List ℕ) (script : Script) (logs : Logs) (entries : List Entry) → script_of bytes ≡ Ok script → answered script logs ≡ Some entries → EachRecorded script.dialect logs entries }
+    ensures { (bytes : List ℕ) (script : Script) (logs : ServerLogs) (entries : List Entry)
+        → script_of bytes ≡ Ok script → answered script logs ≡ Some entries
+        → EachRecorded script.dialect logs entries }
 {}
 
 /// So each status is borne out by its server's log up to the mark.
 pub fn entries_are_borne_out()
-    ensures { (bytes : List ℕ) (script : Script) (logs : Logs) (entries : List Entry) → script_of bytes ≡ Ok script → answered script logs ≡ Some entries → EachVerdict script.dialect logs entries }
+    ensures { (bytes : List ℕ) (script : Script) (logs : ServerLogs) (entries : List Entry)
+        → script_of bytes ≡ Ok script → answered script logs ≡ Some entries
+        → EachVerdict script.dialect logs entries }
 {}
 
 /// And each depth stands over its server up to the mark.
 pub fn depths_stand_over_their_servers()
-    ensures { (bytes : List ℕ) (script : Script) (logs : Logs) (entries : List Entry) → script_of bytes ≡ Ok script → answered script logs ≡ Some entries → EachStandsOver script.dialect logs entries }
+    ensures { (bytes : List ℕ) (script : Script) (logs : ServerLogs) (entries : List Entry)
+        → script_of bytes ≡ Ok script → answered script logs ≡ Some entries
+        → EachStandsOver script.dialect logs entries }
 {}
 
 /// Each connection that `get` hands out is valid and without a depth.
 pub fn connections_are_handed_out_clean()
-    ensures { (bytes : List ℕ) (script : Script) (logs : Logs) (entries : List Entry) → script_of bytes ≡ Ok script → answered script logs ≡ Some entries → EachClean entries }
+    ensures { (bytes : List ℕ) (script : Script) (logs : ServerLogs) (entries : List Entry)
+        → script_of bytes ≡ Ok script → answered script logs ≡ Some entries → EachClean entries }
 {}
 
 /// After each entry its server holds the stack of the fold of its connection's entries up to it, where no text of a
 /// transaction was refused, no savepoint was set in an idle server, and no level in which the transaction was aborted was
 /// kept.
 pub fn servers_hold_the_stacks_of_entries()
-    ensures { (bytes : List ℕ) (script : Script) (logs : Logs) (entries : List Entry) → script_of bytes ≡ Ok script → answered script logs ≡ Some entries → (n : ℕ) → EntryPremises script.dialect n (logs n) entries → EachNested script.dialect n (logs n) entries unfolded }
+    ensures { (bytes : List ℕ) (script : Script) (logs : ServerLogs) (entries : List Entry)
+        → script_of bytes ≡ Ok script → answered script logs ≡ Some entries → (n : ℕ)
+        → EntryPremises script.dialect n (logs n) entries
+        → EachNested script.dialect n (logs n) entries unfolded }
 {}
 
 /// The writes that a server keeps in the end are the fold of its connection's entries, where no text of a transaction was
 /// refused, no savepoint was set in an idle server, and no level in which the transaction was aborted was kept.
 pub fn kept_writes_are_the_fold_of_entries()
-    ensures { (bytes : List ℕ) (script : Script) (logs : Logs) (entries : List Entry) → script_of bytes ≡ Ok script → answered script logs ≡ Some entries → (n : ℕ) → is_opened n entries ≡ true → EntryPremises script.dialect n (logs n) entries → option_map kept (state_of script.dialect (logs n)) ≡ Some (fold_entries n (logs n) entries unfolded).stack.lowest }
+    ensures { (bytes : List ℕ) (script : Script) (logs : ServerLogs) (entries : List Entry)
+        → script_of bytes ≡ Ok script → answered script logs ≡ Some entries → (n : ℕ)
+        → is_opened n entries ≡ true → EntryPremises script.dialect n (logs n) entries
+        → option_map kept (state_of script.dialect (logs n)) ≡ Some (fold_entries n (logs n) entries unfolded).stack.lowest }
 {}
 
 /// On SQLite the first premise of the fold gives the other two, for the log of each server that was opened.
 pub fn sqlite_wants_one_premise()
-    ensures { (bytes : List ℕ) (script : Script) (logs : Logs) (entries : List Entry) → script_of bytes ≡ Ok script → answered script logs ≡ Some entries → script.dialect ≡ Sqlite → (n : ℕ) → is_opened n entries ≡ true → list_any refuses_transaction (logs n) ≡ false → EntryPremises script.dialect n (logs n) entries }
+    ensures { (bytes : List ℕ) (script : Script) (logs : ServerLogs) (entries : List Entry)
+        → script_of bytes ≡ Ok script → answered script logs ≡ Some entries
+        → script.dialect ≡ Sqlite → (n : ℕ) → is_opened n entries ≡ true
+        → list_any refuses_transaction (logs n) ≡ false
+        → EntryPremises script.dialect n (logs n) entries }
 {}

@@ -19,20 +19,10 @@ use Rattle.conn_result.specs.declared.error.ConnectionError.TheVariants as conne
 use Rattle.conn_manager.specs.declared.status.InTransactionStatus.{InTransactionStatus}
 use Rattle.conn_manager.specs.declared.status.TransactionManagerStatus.{TransactionManagerStatus}
 use Rattle.conn_manager.specs.declared.status.TransactionManagerStatus.TheVariants.{Valid, InError}
-use Rattle.conn_script.specs.declared.command.Word.{Word}
-use Rattle.conn_script.specs.declared.command.Word.TheVariants as words
+use Rattle.conn_script.specs.Spelling.{word_text}
 use Rattle.conn_report.specs.declared.entry.Entry.{Entry}
 use Rattle.conn_report.specs.declared.entry.Reply.{Reply}
 use Rattle.conn_report.specs.declared.entry.Reply.TheVariants as replies
-
--- the first word of a command's line
-abbrev pub word_text : Word → List ℕ
-word_text words.Get = codes "get"
-word_text words.Put = codes "put"
-word_text words.Batch = codes "batch"
-word_text words.Begin = codes "begin"
-word_text words.Commit = codes "commit"
-word_text words.Rollback = codes "rollback"
 
 -- words where a test holds, and else nothing
 abbrev pub words_if : Bool → List ℕ → List ℕ
@@ -152,13 +142,13 @@ or_dash text (Some x) = text x
 abbrev pub entry_head : Entry → List ℕ
 entry_head e = decimal e.line ++ codes " " ++ word_text e.word ++ codes " " ++ or_dash decimal e.connection
 
--- the reply, the status and the mark
-abbrev pub entry_tail : Entry → List ℕ
-entry_tail e = codes " | " ++ reply_text e.reply ++ codes " | " ++ or_dash status_text e.status ++ codes " | " ++ or_dash decimal e.mark ++ codes "\n"
+-- the status and the mark
+abbrev pub entry_end : Entry → List ℕ
+entry_end e = codes " | " ++ or_dash status_text e.status ++ codes " | " ++ or_dash decimal e.mark ++ codes "\n"
 
 -- one line for an entry
 abbrev pub entry_line : Entry → List ℕ
-entry_line e = entry_head e ++ entry_tail e
+entry_line e = entry_head e ++ codes " | " ++ reply_text e.reply ++ entry_end e
 
 -- one line for a committed write
 abbrev pub write_line : List ℕ → List ℕ

@@ -1,6 +1,6 @@
 //! What the commands of a session gave.
+use crate::Texts;
 use conn_manager::TransactionManagerStatus;
-use conn_model::Text;
 use conn_result::{ConnectionError, Error};
 use conn_script::Word;
 use sqlite_items::Items;
@@ -36,9 +36,6 @@ pub struct Entry {
 
 /// Entries in order, seen as a list.
 pub type Entries = Items<Entry>;
-
-/// Texts in order, seen as a list.
-pub type Texts = Items<Text>;
 
 /// For each server by its number the writes that it committed, where they are told; seen as a list.
 pub type Servers = Items<Option<Texts>>;

@@ -1,30 +1,20 @@
 -- The grammar: what a line may be after the lines before it, and what a list of bytes stands for.
-use Rattle.std.specs.Prelude.{ℕ, ◌+◌, ◌≡◌, ◌==◌, false, nat_lt, List, [], ◌∷◌, ◌++◌, length, Option, Some, None, Result, Ok, Err, is_none, if◌then◌else◌, codes}
+use Rattle.std.specs.Prelude.{ℕ, ◌+◌, ◌≡◌, ◌==◌, nat_lt, List, [], ◌∷◌, length, Option, Some, None, Result, Ok, Err, is_none, if◌then◌else◌, codes}
 use Rattle.std.specs.Option.{option_map}
 use Rattle.std.specs.Str.{bytes_eq, is_utf8}
 use Rattle.conn_model.specs.Numbers.{number}
-use Rattle.conn_model.specs.declared.item.Dialect.TheVariants as dialects
 pub use Rattle.conn_script.specs.Options.{◌>>=◌, guard}
 use Rattle.conn_script.specs.Words.{split_at, is_statement}
-use Rattle.conn_script.specs.Plans.{refused_of, with_refused}
+use Rattle.conn_script.specs.Spelling.{word_named}
+use Rattle.conn_script.specs.Plans.{refused_of}
+use Rattle.conn_script.specs.Drafts.{Draft, empty_draft, command_added, with_refused, if_closable}
 use Rattle.conn_script.specs.declared.command.Word.{Word}
 use Rattle.conn_script.specs.declared.command.Word.TheVariants as words
 use Rattle.conn_script.specs.declared.command.Act.{Act}
 use Rattle.conn_script.specs.declared.command.Act.TheVariants as acts
-use Rattle.conn_script.specs.declared.command.Customizer.TheVariants as customizers
 use Rattle.conn_script.specs.declared.command.Script.{Script}
 use Rattle.conn_script.specs.declared.command.SessionError.{SessionError}
 use Rattle.conn_script.specs.declared.command.SessionError.TheVariants.{BadScript, OutOfMemory}
-
--- the command word that is spelled so
-abbrev pub word_named : List ℕ → Option Word
-word_named bs =
-    if bytes_eq bs (codes "get") then Some words.Get else
-    if bytes_eq bs (codes "put") then Some words.Put else
-    if bytes_eq bs (codes "batch") then Some words.Batch else
-    if bytes_eq bs (codes "begin") then Some words.Begin else
-    if bytes_eq bs (codes "commit") then Some words.Commit else
-    if bytes_eq bs (codes "rollback") then Some words.Rollback else None
 
 -- a connection alone
 abbrev pub connection_alone : Option (List ℕ) → Option ℕ
@@ -51,22 +41,18 @@ act_of first rest = do
   word ← word_named first
   act_from word rest
 
--- a session over SQLite with a pool of one connection, which is neither customized nor checked
-abbrev pub empty_script : Script
-empty_script = record { dialect = dialects.Sqlite; max_size = 1; customizer = customizers.Nop; check = false; url = codes ":memory:"; plan = []; commands = [] }
+-- the draft with one line more, the line of number n, by its first word and what follows it behind a space
+abbrev pub with_words : ℕ → Draft → List ℕ × Option (List ℕ) → Option Draft
+with_words n d line = if bytes_eq line.0 (codes "refuse") then (refused_of line.1 >>= with_refused d) else option_map (command_added n d) (act_of line.0 line.1)
 
--- the script with one more command, if there may be one
-abbrev pub with_command : ℕ → Script → Act → Option Script
-with_command n script act = guard (nat_lt (length script.commands) 1048576) (record script { commands = script.commands ++ record { line = n; act = act } ∷ [] })
+-- the draft with one more line of text, behind which the lines that are due can still come
+abbrev pub with_text : ℕ → Draft → List ℕ → Option Draft
+with_text n d line = with_words n d (split_at 32 line) >>= if_closable
 
--- the script with one more line, the line of number n, by its first word and what follows it behind a space
-abbrev pub with_words : ℕ → Script → List ℕ × Option (List ℕ) → Option Script
-with_words n script line = if bytes_eq line.0 (codes "refuse") then (refused_of line.1 >>= with_refused script) else (act_of line.0 line.1 >>= with_command n script)
-
--- the script that the lines up to this one, the line of number n, begin, if they begin one
-abbrev pub next : ℕ → Option Script → List ℕ → Option Script
-next n None line = guard (bytes_eq line (codes "session sqlite 1 nop nocheck")) empty_script
-next n (Some script) line = if is_utf8 line then with_words n script (split_at 32 line) else None
+-- the draft that the lines up to this one, the line of number n, make, if a script may go on with it
+abbrev pub next : ℕ → Option Draft → List ℕ → Option Draft
+next n None line = guard (bytes_eq line (codes "session sqlite 1 nop nocheck")) empty_draft
+next n (Some d) line = if is_utf8 line then with_text n d line else None
 
 -- a byte in front of the first line
 abbrev pub with_first : ℕ → List (List ℕ) → List (List ℕ)
@@ -79,21 +65,21 @@ lines_of [] = [] ∷ []
 lines_of (b ∷ bs) = if b == 10 then [] ∷ lines_of bs else with_first b (lines_of bs)
 
 -- the script at the end, where the last line feed stood before line n
-abbrev pub finished : ℕ → Option Script → List ℕ → Result Script ℕ
-finished n (Some script) [] = Ok script
-finished n (Some script) (b ∷ bs) = Err n
-finished n None last = Err n
+abbrev pub judged_last : ℕ → Option Draft → List ℕ → Result Script ℕ
+judged_last n (Some d) [] = Ok d.script
+judged_last n (Some d) (b ∷ bs) = Err n
+judged_last n None last = Err n
 
--- the line is bad where there is no script after it
-abbrev pub or_bad : ℕ → Option Script → (Script → Result Script ℕ) → Result Script ℕ
+-- the line is bad where there is no draft after it
+abbrev pub or_bad : ℕ → Option Draft → (Draft → Result Script ℕ) → Result Script ℕ
 or_bad n None f = Err n
-or_bad n (Some script) f = f script
+or_bad n (Some d) f = f d
 
 -- the script, or the number of the first line that no script goes on with
-abbrev pub judged : ℕ → Option Script → List (List ℕ) → Result Script ℕ
-judged n script [] = Err n
-judged n script (last ∷ []) = finished n script last
-judged n script (line ∷ more ∷ lines) = or_bad n (next n script line) (λ s. judged (n + 1) (Some s) (more ∷ lines))
+abbrev pub judged : ℕ → Option Draft → List (List ℕ) → Result Script ℕ
+judged n draft [] = Err n
+judged n draft (last ∷ []) = judged_last n draft last
+judged n draft (line ∷ more ∷ lines) = or_bad n (next n draft line) (λ d. judged (n + 1) (Some d) (more ∷ lines))
 
 -- what the bytes stand for: a script, or the number of the bad line; 0 where there are more than 16,777,216 bytes
 abbrev pub script_of : List ℕ → Result Script ℕ

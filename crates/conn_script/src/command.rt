@@ -1,5 +1,7 @@
 //! What a script says.
-use conn_model::{Dialect, PlanLine, Text};
+ghost use Rattle.std.specs.Prelude.{◌≡◌};
+
+use conn_model::{Dialect, LentText, PlanLine, Text};
 use sqlite_items::Items;
 
 /// The first word of a command.
@@ -13,12 +15,40 @@ pub enum Word {
     Rollback,
 }
 
-/// What a command asks for. The first number is the connection.
+impl Word {
+    ghost use Rattle.conn_script.specs.Spelling.{word_text};
+
+    /// All of them.
+    pub const ALL: [Word; 6] = [
+        Word::Get,
+        Word::Put,
+        Word::Batch,
+        Word::Begin,
+        Word::Commit,
+        Word::Rollback,
+    ];
+
+    /// How it is spelled.
+    pub fn name(self) -> &'static str
+        ensures { result.now ≡ word_text self }
+    {
+        match self {
+            Word::Get => "get",
+            Word::Put => "put",
+            Word::Batch => "batch",
+            Word::Begin => "begin",
+            Word::Commit => "commit",
+            Word::Rollback => "rollback",
+        }
+    }
+}
+
+/// What a command asks for. The first number is the connection; a text stands in the bytes of the script.
 #[derive(Debug, Drop)]
-pub enum Act {
+pub enum Act<'a> {
     Get,
     Put(u32),
-    Batch(u32, Text),
+    Batch(u32, LentText<'a>),
     Begin(u32),
     Commit(u32),
     Rollback(u32),
@@ -26,13 +56,13 @@ pub enum Act {
 
 /// A command, and the number of its line, from 1.
 #[derive(Debug, Drop)]
-pub struct Command {
+pub struct Command<'a> {
     pub line: u32,
-    pub act: Act,
+    pub act: Act<'a>,
 }
 
 /// Commands in order, seen as a list.
-pub type Commands = Items<Command>;
+pub type Commands<'a> = Items<Command<'a>>;
 
 /// Lines of a plan in order, seen as a list.
 pub type Plan = Items<PlanLine>;
@@ -47,14 +77,14 @@ pub enum Customizer {
 
 /// A session: how its pool is made, what its servers refuse, and what is done.
 #[derive(Debug, Drop)]
-pub struct Script {
+pub struct Script<'a> {
     pub dialect: Dialect,
     pub max_size: u32,
     pub customizer: Customizer,
     pub check: bool,
     pub url: Text,
     pub plan: Plan,
-    pub commands: Commands,
+    pub commands: Commands<'a>,
 }
 
 /// Why a session gave no transcript. Lines count from 1; 0 stands for too many bytes, and for every bad line of a session that

@@ -1,7 +1,7 @@
 //! What the lines so far say.
-ghost use Rattle.std.specs.Prelude.{◌≡◌, IfOk};
-ghost use Rattle.conn_script.specs.Grammar.{empty_script, with_command};
-ghost use Rattle.conn_script.specs.Plans.{with_refused};
+ghost use Rattle.std.specs.Prelude.{◌≡◌, IfOk, OnErr};
+ghost use Rattle.conn_script.specs.Options.{guard};
+ghost use Rattle.conn_script.specs.Drafts.{can_close, command_added, empty_draft, empty_script, with_refused};
 
 use crate::plan::{Refused, plan_line};
 use crate::{Act, Command, Customizer, Script};
@@ -17,24 +17,25 @@ const MAX_COMMANDS: usize = 1_048_576;
 /// A script so far, seen as it stands. Beside it are the items that its plan refuses, each a
 /// server and the item's number.
 #[derive(Drop)]
-pub struct Draft {
-    script: Script,
+pub struct Draft<'a> {
+    script: Script<'a>,
     refused: BTreeSet<(u32, u64)>,
 }
 
-impl Model for Draft {
-    ghost use Rattle.conn_script.specs.Plans.{AreRefused};
-    ghost use Rattle.conn_script.specs.declared.command.Script.{Script};
+impl<'a> Model for Draft<'a> {
+    ghost use Rattle.conn_script.specs.Keys.{AreKeys};
+    ghost use Rattle.conn_script.specs.Plans.{compare_items, refused_key};
+    ghost use Rattle.conn_script.specs.Drafts.{Draft, drafted};
 
-    ghost Value = { Script };
+    ghost Value = { Draft };
 
-    ghost view = { λ d. d.script };
+    ghost view = { λ d. drafted d.script };
 
-    ghost invariant = { λ d. AreRefused d.refused.keys d.script.plan };
+    ghost invariant = { λ d. AreKeys compare_items refused_key d.refused.keys d.script.plan };
 }
 
 /// The script of the first line alone.
-fn empty(alloc: Global) -> Result<Script, AllocError>
+fn empty<'a>(alloc: Global) -> Result<Script<'a>, AllocError>
     ensures { IfOk result (λ script. script ≡ empty_script) }
 {
     Ok(Script {
@@ -48,10 +49,10 @@ fn empty(alloc: Global) -> Result<Script, AllocError>
     })
 }
 
-impl Draft {
+impl<'a> Draft<'a> {
     /// The draft of the first line alone.
-    pub fn new(alloc: Global) -> Result<Draft, AllocError>
-        ensures { IfOk result (λ draft. draft ≡ empty_script) }
+    pub fn new(alloc: Global) -> Result<Draft<'a>, AllocError>
+        ensures { IfOk result (λ draft. draft ≡ empty_draft) }
     {
         Ok(Draft {
             script: empty(alloc)?,
@@ -59,42 +60,47 @@ impl Draft {
         })
     }
 
-    /// The draft with one more command, or `None` where it has as many as it may have.
-    pub fn with_command(self, line: u32, act: Act) -> Result<Option<Draft>, AllocError>
-        ensures { IfOk result (λ after. after ≡ with_command line self act) }
+    /// Whether the lines that are due can still come.
+    pub fn can_be_closed(&self) -> bool
+        ensures { result ≡ can_close self.now }
     {
-        let Draft {
-            mut script,
-            refused,
-        } = self;
-        if script.commands.len() >= MAX_COMMANDS {
-            return Ok(None);
-        }
-        script.commands.push(Command { line, act })?;
-        Ok(Some(Draft { script, refused }))
+        self.script.commands.len() <= MAX_COMMANDS
     }
 
-    /// The draft with one more item refused, or `None` where another line refuses it or a
-    /// command stands before it.
-    pub fn with_refused(self, r: Refused) -> Result<Option<Draft>, AllocError>
-        ensures { IfOk result (λ after. after ≡ with_refused self r) }
+    /// Adds a command.
+    pub fn add_command(&mut self, line: u32, act: Act<'a>) -> Result<(), AllocError>
+        ensures added { IfOk result (λ _. self.new ≡ command_added line self.old act.entry) }
+        ensures kept { OnErr result (self.new ≡ self.old) }
     {
-        let Draft {
-            mut script,
-            mut refused,
-        } = self;
-        if script.commands.len() > 0 {
-            return Ok(None);
-        }
-        if !refused.insert((r.server, r.item))? {
-            return Ok(None);
-        }
-        script.plan.push(plan_line(r))?;
-        Ok(Some(Draft { script, refused }))
+        self.script.commands.push(Command { line, act })
     }
 
-    pub fn into_script(self) -> Script
-        ensures { result ≡ self }
+    /// Adds an item that is refused, and answers whether it may come here: no other line refuses
+    /// it, and no command stands before it.
+    pub fn add_refused(&mut self, r: Refused) -> Result<bool, AllocError>
+        ensures added { IfOk result (λ good. guard good self.new ≡ with_refused self.old r) }
+        ensures kept { OnErr result (self.new ≡ self.old) }
+    {
+        if self.script.commands.len() > 0 {
+            return Ok(false);
+        }
+        let item = (r.server, r.item);
+        if self.refused.contains(&item) {
+            return Ok(false);
+        }
+        self.script.plan.push(plan_line(r))?;
+        match self.refused.insert(item) {
+            Ok(_) => Ok(true),
+            Err(e) => {
+                let _ = self.script.plan.pop();
+                Err(e.into())
+            }
+        }
+    }
+
+    /// The script of all lines.
+    pub fn into_script(self) -> Script<'a>
+        ensures { result ≡ self.entry.script }
     {
         let Draft { script, refused: _ } = self;
         script

@@ -18,7 +18,7 @@ are_borne_out script k entries parsed is =
       clean = each_clean parsed.bytes script logs entries parsed.parses is.entries_are;
       nested = each_nested parsed.bytes script logs entries parsed.parses is.entries_are;
       folds = kept_by_entries parsed.bytes script logs entries parsed.parses is.entries_are;
-      on_sqlite = one_premise parsed.bytes script logs entries parsed.parses is.entries_are;
+      on_sqlite = λ n sqlite. one_premise parsed.bytes script logs entries parsed.parses is.entries_are sqlite n;
     }
 
 pub is_parsed : (bytes : List ℕ) (script : Script) → script_of bytes ≡ Ok script → IsParsed script

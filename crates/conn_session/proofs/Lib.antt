@@ -1,14 +1,18 @@
-pub mod Places
-pub mod Moves
-pub mod Lists
-pub mod Steps
+pub mod Numbers
+pub mod Totals
+pub mod Moving
+pub mod Shown
+pub mod Growing
+pub mod Counts
+pub mod Puts
+pub mod Aims
+pub mod Honest
+pub mod Gets
+pub mod Responses
+pub mod Deeds
 pub mod Runs
 pub mod Closing
+pub mod Ended
 pub mod Kept
 pub mod Whole
-pub mod Knowing
-pub mod Growing
-pub mod Ended
 pub mod Borne
-mod Aims
-pub mod Faults

@@ -1,50 +1,66 @@
 -- One command after another.
-use Rattle.std.proofs.Common.{List, [], ◌∷◌, ◌++◌, Ok, refl, subst, sym, append-nil, append_assoc}
+use Rattle.std.proofs.Common.{Bool, List, [], ◌∷◌, ◌++◌, Ok, refl, subst, sym, append-nil, append_assoc, ◌∙◌}
 use Rattle.conn_report.specs.declared.entry.Entry.{Entry}
+use Rattle.conn_script.specs.Requests.{request_of}
 use Rattle.conn_script.specs.declared.command.Command.{Command}
-use Rattle.conn_model.specs.declared.item.Dialect.{Dialect}
 use Rattle.conn_reading.specs.Answered.{reads}
-use Rattle.conn_reading.proofs.InOrder.{ReadsAll-none, ReadsAll-push}
-use Rattle.conn_session.specs.Known.{Grows, GrowsAll, progress}
-use Rattle.conn_session.proofs.Knowing
-use Rattle.conn_session.proofs.Faults.{later-refl, later-trans, all_caused}
-use Rattle.conn_session.specs.Plays.{Plays, PlaysAll}
 use Rattle.conn_reading.specs.Seats.{Context}
-use Rattle.conn_session.specs.Worlds.{World, Steps, Runs}
+use Rattle.conn_reading.proofs.InOrder.{ReadsAll-none, ReadsAll-push}
+use Rattle.conn_model.specs.declared.plan.Target.{Target}
+use Rattle.conn_server.specs.Connected.{AreAt}
+use Rattle.conn_session.specs.Known.{Grows, GrowsAll, progress, with_more}
+use Rattle.conn_session.specs.Plays.{Plays, PlaysAll}
+use Rattle.conn_session.specs.Steps.{KeepsOpening, KeepsAll, Runs, Steps}
+use Rattle.conn_session.specs.Worlds.{World, Invariant, context_of}
+use Rattle.conn_session.proofs.Counts.{later-refl, later-trans, all_caused, opening-refl}
+use Rattle.conn_session.proofs.Growing.{known_same}
 
--- one command more
-PlaysAll-push : (a b c : Context) (commands : List Command) (entries : List Entry) (command : Command) (entry : Entry) → PlaysAll a commands entries b → Plays b command.line command.act entry c → PlaysAll a (commands ++ command ∷ []) (entries ++ entry ∷ []) c
-PlaysAll-push a b c [] [] command entry so_far more = (c, subst (λ (x : Context). Plays x command.line command.act entry c) so_far more, refl)
+-- ---- what each command keeps
+
+opening-trans : (a b c : World) → KeepsOpening a b → KeepsOpening b c → KeepsOpening a c
+opening-trans a b c p q = record {
+  dialect = q.dialect ∙ p.dialect;
+  target = q.target ∙ p.target;
+  size = q.size ∙ p.size;
+  plan = q.plan ∙ p.plan;
+  aims = λ h. subst (λ (t : Target). AreAt t c.connector.targets) p.target (q.aims (subst (λ (t : Target). AreAt t b.connector.targets) (sym p.target) (p.aims h)));
+}
+
+pub keeps-refl : (w : World) → Invariant w → KeepsAll w w
+keeps-refl w h = record { holds = h; counts = later-refl w; opening = opening-refl w }
+
+pub keeps-trans : (a b c : World) → KeepsAll a b → KeepsAll b c → KeepsAll a c
+keeps-trans a b c p q = record { holds = q.holds; counts = later-trans a b c p.counts q.counts; opening = opening-trans a b c p.opening q.opening }
+
+-- ---- the entries
+
+PlaysAll-push : (a b c : Context) (commands : List Command) (entries : List Entry) (command : Command) (entry : Entry) → PlaysAll a commands entries b → Plays command.line (request_of command.act) b entry c
+    → PlaysAll a (commands ++ command ∷ []) (entries ++ entry ∷ []) c
+PlaysAll-push a b c [] [] command entry so_far more = (c, subst (λ (x : Context). Plays command.line (request_of command.act) x entry c) so_far more, refl)
 PlaysAll-push a b c [] (e ∷ es) command entry so_far more = absurd so_far
 PlaysAll-push a b c (d ∷ ds) [] command entry so_far more = absurd so_far
 PlaysAll-push a b c (d ∷ ds) (e ∷ es) command entry so_far more = (so_far.0, so_far.1, PlaysAll-push so_far.0 b c ds es command entry so_far.2 more)
 
-pub Runs-none : (w : World) → Runs w w [] []
-Runs-none w = record { accounts = λ a. a; plays = refl; counts = later-refl w; caused = tt }
+grows-none : (w : World) → GrowsAll w w [] []
+grows-none w = λ logs known. ((λ n. []), known_same logs (with_more logs (λ n. [])) w (λ n. append-nil (logs n)) known, ReadsAll-none (progress w))
 
-pub Runs-push : {E : Type 0} (start old new : World) (commands : List Command) (command : Command) (entries : List Entry) (entry : Entry) → Runs start old commands entries → Steps {E = E} old new command.line command.act (Ok entry) → Runs start new (commands ++ command ∷ []) (entries ++ entry ∷ [])
-Runs-push start old new commands command entries entry r s = record {
-  accounts = λ a. s.accounts (r.accounts a);
-  plays = PlaysAll-push start.context old.context new.context commands entries command entry r.plays s.plays;
-  counts = later-trans start old new r.counts s.causes.counts;
-  caused = all_caused start old new entries entry r.counts r.caused s.causes;
-}
+grows-push : (start old new : World) (commands : List Command) (command : Command) (entries : List Entry) (entry : Entry)
+    → GrowsAll start old commands entries → Grows (λ p logs. reads p logs command.line (request_of command.act)) old new entry → GrowsAll start new (commands ++ command ∷ []) (entries ++ entry ∷ [])
+grows-push start old new commands command entries entry r s = λ logs known.
+    let first = r logs known in
+    let second = s (with_more logs first.0) first.1 in (
+      (λ n. first.0 n ++ second.0 n),
+      known_same (with_more (with_more logs first.0) second.0) (with_more logs (λ n. first.0 n ++ second.0 n)) new (λ n. sym (append_assoc (logs n) (first.0 n) (second.0 n))) second.1,
+      ReadsAll-push (progress start) (progress old) (progress new) first.0 second.0 commands command entries entry first.2 second.2,
+    )
 
--- ---- over honest servers
+pub runs-none : (honest : Bool) (w : World) → Runs honest [] w w []
+runs-none honest w = record { plays = refl; caused = tt; grows = λ _. grows-none w }
 
-pub GrowsAll-none : (d : Dialect) (w : World) → GrowsAll d w w [] []
-GrowsAll-none d w = record {
-  grows = λ logs known. (λ n. [], Knowing.known_same d logs (λ n. logs n ++ []) w (λ n. sym (append-nil (logs n))) known, ReadsAll-none (progress d w));
-}
-
-pub GrowsAll-push : (d : Dialect) (start old new : World) (commands : List Command) (command : Command) (entries : List Entry) (entry : Entry)
-    → GrowsAll d start old commands entries → Grows d (λ p logs. reads p logs command.line command.act) old new entry → GrowsAll d start new (commands ++ command ∷ []) (entries ++ entry ∷ [])
-GrowsAll-push d start old new commands command entries entry r s = record {
-  grows = λ logs known.
-      let first = r.grows logs known in
-      let second = s.grows (λ n. logs n ++ first.0 n) first.1 in (
-        λ n. first.0 n ++ second.0 n,
-        Knowing.known_same d (λ n. (logs n ++ first.0 n) ++ second.0 n) (λ n. logs n ++ (first.0 n ++ second.0 n)) new (λ n. append_assoc (logs n) (first.0 n) (second.0 n)) second.1,
-        ReadsAll-push (progress d start) (progress d old) (progress d new) first.0 second.0 commands command entries entry first.2 second.2,
-      );
+pub runs-push : (honest : Bool) (start old new : World) (commands : List Command) (command : Command) (entries : List Entry) (entry : Entry) → KeepsAll start old → Runs honest commands start old entries
+    → Steps honest command.line (request_of command.act) old new (Ok entry) → Runs honest (commands ++ command ∷ []) start new (entries ++ entry ∷ [])
+runs-push honest start old new commands command entries entry keeps r s = record {
+  plays = PlaysAll-push (context_of start) (context_of old) (context_of new) commands entries command entry r.plays s.plays;
+  caused = all_caused start old new entries entry keeps.counts s.keeps.counts r.caused s.caused;
+  grows = λ h. grows-push start old new commands command entries entry (r.grows h) (s.grows h);
 }

@@ -1,5 +1,5 @@
 -- What the whole call answers.
-use Rattle.std.specs.Prelude.{ℕ, ◌≡◌, ◌<◌, ◌≤◌, ◌⊎◌, Bool, true, false, List, [], ◌∷◌, map, slice_get, Option, Some, None, Result, Ok, Err, codes, string_bytes, MatchResult}
+use Rattle.std.specs.Prelude.{ℕ, ◌≡◌, ◌<◌, ◌≤◌, ◌⊎◌, Bool, true, false, List, [], ◌∷◌, map, slice_get, sum_by, Option, Some, None, Result, Ok, Err, codes, string_bytes, MatchResult}
 use Rattle.std.specs.List.{AllByRecursion, list_any}
 use Rattle.std.specs.Option.{option_map, option_and_then}
 use Rattle.std.specs.declared.string.String.{String}
@@ -9,7 +9,7 @@ use Rattle.conn_model.specs.States.{State, Writes, state_of, kept}
 use Rattle.conn_model.specs.declared.item.Dialect.{Dialect}
 use Rattle.conn_model.specs.declared.item.Item.{Item}
 use Rattle.conn_model.specs.declared.item.Dialect.TheVariants.{Sqlite}
-use Rattle.conn_reading.specs.Answered.{answered, servers_opened}
+use Rattle.conn_reading.specs.Answered.{ServerLogs, answered, servers_opened}
 use Rattle.conn_reading.specs.Folds.{refuses_transaction}
 use Rattle.conn_reading.specs.Sessions.{EachVerdict, EachStandsOver, EachClean, EntryPremises, EachNested, is_opened, fold_entries, unfolded}
 use Rattle.conn_report.specs.declared.entry.Entry.{Entry}
@@ -20,18 +20,20 @@ use Rattle.conn_script.specs.declared.command.Script.{Script}
 use Rattle.conn_script.specs.declared.command.SessionError.{SessionError}
 use Rattle.conn_script.specs.declared.command.SessionError.TheVariants.{BadScript, OutOfMemory}
 use Rattle.conn_model.specs.declared.plan.Target.TheVariants.{Url}
-use Rattle.conn_server.specs.Connected.{Connected, AreAt}
+use Rattle.conn_server.specs.Connected.{Connected, AreAt, writes_by}
 use Rattle.conn_server.specs.Ordered.{planned}
-use Rattle.conn_session.specs.Accounts.{faults, logs_of, servers_of}
+use Rattle.conn_session.specs.Accounts.{logs_of, servers_of}
 use Rattle.conn_session.specs.Plays.{IsPlayed}
-use Rattle.conn_session.specs.Worlds.{IsCausedBy}
+use Rattle.conn_session.specs.Steps.{IsCausedBy}
+use Rattle.conn_session.specs.Worlds.{refusals}
 
 -- the logs of the servers that are back answer these entries to the script, and say how many servers were opened; each obeys
 -- what the script's plan refuses of its server
 pub record IsAnswered (script : Script) (k : Connected) (entries : List Entry) : Type 0 where
   pub entries_are : answered script (logs_of k.returned) ≡ Some entries
   pub opened : servers_opened script (logs_of k.returned) ≡ Some k.opened
-  pub obeys : (n : ℕ) → n < k.opened → Obeys script.dialect (planned script.plan n) (logs_of k.returned n)
+  pub obeys : (n : ℕ) → n < k.opened
+      → Obeys script.dialect (planned script.plan n) (logs_of k.returned n)
 
 -- the log is lawful, and what is told of its server are the writes that it keeps
 pub record TellsKept (d : Dialect) (log : List Item) (told : Option Writes) : Type 0 where
@@ -47,23 +49,50 @@ EachTold d k told = (n : ℕ) → n < k.opened → TellsKept d (logs_of k.return
 abbrev pub told_at : List (Option Writes) → ℕ → Option Writes
 told_at servers n = option_and_then (λ (writes : Option Writes). writes) (slice_get servers n)
 
--- the logs of the servers that are back bear the entries out: each status up to its mark, each depth over its server, no depth
--- where `get` hands out; under the premises of the fold a server held, after each entry of its connection, the stack of the
--- fold up to it, and it kept the fold of all of them; on SQLite these premises hold of each server that was opened and refused
--- no text of a transaction
-pub record AreBorneOut (script : Script) (k : Connected) (entries : List Entry) : Type 0 where
-  pub verdicts : EachVerdict script.dialect (logs_of k.returned) entries
-  pub depths : EachStandsOver script.dialect (logs_of k.returned) entries
+-- the writes that a log keeps, where it is lawful
+abbrev pub kept_by : Dialect → List Item → Option Writes
+kept_by d log = option_map kept (state_of d log)
+
+-- under the premises of the fold a server keeps the fold of all its entries
+abbrev pub FoldsOf : Dialect → ServerLogs → List Entry → ℕ → Type 0
+FoldsOf d logs entries n = is_opened n entries ≡ true → EntryPremises d n (logs n) entries
+    → kept_by d (logs n) ≡ Some (fold_entries n (logs n) entries unfolded).stack.lowest
+
+-- on SQLite these premises hold of each server that was opened and refused no text of a transaction
+abbrev pub HasPremises : Dialect → ServerLogs → List Entry → ℕ → Type 0
+HasPremises d logs entries n = d ≡ Sqlite → is_opened n entries ≡ true
+    → list_any refuses_transaction (logs n) ≡ false → EntryPremises d n (logs n) entries
+
+-- the logs bear the entries out: each status up to its mark, each depth over its server, no depth where `get` hands out; and
+-- under the premises of the fold a server held, after each entry of its connection, the stack of the fold up to it
+pub record AreBorneOutBy (d : Dialect) (logs : ServerLogs) (entries : List Entry) : Type 0 where
+  pub verdicts : EachVerdict d logs entries
+  pub depths : EachStandsOver d logs entries
   pub clean : EachClean entries
-  pub nested : (n : ℕ) → EntryPremises script.dialect n (logs_of k.returned n) entries → EachNested script.dialect n (logs_of k.returned n) entries unfolded
-  pub folds : (n : ℕ) → is_opened n entries ≡ true → EntryPremises script.dialect n (logs_of k.returned n) entries
-      → option_map kept (state_of script.dialect (logs_of k.returned n)) ≡ Some (fold_entries n (logs_of k.returned n) entries unfolded).stack.lowest
-  pub on_sqlite : script.dialect ≡ Sqlite → (n : ℕ) → is_opened n entries ≡ true → list_any refuses_transaction (logs_of k.returned n) ≡ false → EntryPremises script.dialect n (logs_of k.returned n) entries
+  pub nested : (n : ℕ) → EntryPremises d n (logs n) entries → EachNested d n (logs n) entries unfolded
+  pub folds : (n : ℕ) → FoldsOf d logs entries n
+  pub on_sqlite : (n : ℕ) → HasPremises d logs entries n
+
+-- so do the logs of the servers that are back
+abbrev pub AreBorneOut : Script → Connected → List Entry → Type 0
+AreBorneOut script k entries = AreBorneOutBy script.dialect (logs_of k.returned) entries
 
 -- some bytes stand for the script
 pub record IsParsed (script : Script) : Type 0 where
   pub bytes : List ℕ
   pub parses : script_of bytes ≡ Ok script
+
+-- refusals in the entries were counted, by the connector or by the server that is back
+abbrev pub AreCaused : Connected → Connected → List Entry → Type 0
+AreCaused old k = AllByRecursion (IsCausedBy (λ n. sum_by (refusals n) k.returned) old.failures k.failures)
+
+-- the commands of a script were run, and all servers are back; over an honest connector that was armed with the script's plan
+-- the logs answer the entries
+pub record RunsScript (honest : Bool) (script : Script) (old k : Connected) (entries : List Entry) : Type 0 where
+  pub played : IsPlayed script.commands entries
+  pub caused : AreCaused old k entries
+  pub answered : honest ≡ true → old.attempts ≡ 0 → old.armed ≡ script.plan → IsAnswered script k entries
+  pub kept : honest ≡ true → EachTold script.dialect k (λ n. writes_by true n k.returned)
 
 -- a transcript of a script over the servers that were taken back: its commands gave the entries, and the servers kept the
 -- writes; a refusal of a server or of the connector is in an entry only where it was counted; each attempt was at the script's
@@ -72,7 +101,7 @@ pub record IsParsed (script : Script) : Type 0 where
 pub record Transcribes (honest tells : Bool) (script : Script) (old k : Connected) (t : Transcript) : Type 0 where
   pub entries : IsPlayed script.commands t.entries
   pub servers : t.servers ≡ servers_of tells k.opened k.returned
-  pub caused : AllByRecursion (IsCausedBy (λ n. faults n k.returned) old.failures k.failures) t.entries
+  pub caused : AreCaused old k t.entries
   pub aimed : AreAt (Url script.url) old.targets → AreAt (Url script.url) k.targets
   pub armed : honest ≡ true → k.armed ≡ script.plan
   pub answered : honest ≡ true → IsAnswered script k t.entries
@@ -99,8 +128,8 @@ Answers honest tells (Ok script) old new status text = (status ≡ 0) × ((t : T
 Answers honest tells (Err line) old new status text = (status ≡ 1) × (new ≡ old) × (text ≡ bad_line)
 
 -- the words of the command line are this one word
-abbrev pub IsRun : List (String Global) → Type 0
-IsRun words = map string_bytes words ≡ codes "run" ∷ []
+abbrev pub AsksRun : List (String Global) → Type 0
+AsksRun words = map string_bytes words ≡ codes "run" ∷ []
 
 -- a text answers what the source had left, where it tells, and else some bytes
 abbrev pub AnswersLeft : Bool → Bool → Option (List ℕ) → Connected → Connected → ℕ → List ℕ → Type 0

@@ -1,119 +1,101 @@
--- What a session and its connector show, and what the calls on them do.
-use Rattle.std.specs.Prelude.{ℕ, ◌+◌, ◌≡◌, ◌<◌, ◌≤◌, List, [], Option, Some, length, map, Result, IfOk}
-use Rattle.std.specs.Option.{option_map, unwrap_or}
-use Rattle.std.specs.List.{filter_map, AllByRecursion}
-use Rattle.conn_result.specs.Causes.{Rose}
-use Rattle.conn_model.specs.Seen.{Seen, state_seen}
-use Rattle.conn_model.specs.States.{State, Idle}
-use Rattle.conn_model.specs.declared.plan.PlanLine.{PlanLine}
-use Rattle.conn_report.specs.declared.entry.Entry.{Entry}
-use Rattle.conn_script.specs.declared.command.Act.{Act}
-use Rattle.conn_script.specs.declared.command.Command.{Command}
+-- What a session and its connector show: the pool with its connections, and both together.
+use Rattle.std.specs.Prelude.{ℕ, suc, ◌+◌, ◌≡◌, ◌<◌, ◌≤◌, ◌==◌, ⊤, List, [], ◌∷◌, length, map, sum_by, Option, Some, None, if◌then◌else◌}
+use Rattle.std.specs.Option.{option_map}
+use Rattle.conn_model.specs.Seen.{Seen}
+use Rattle.conn_model.specs.declared.item.Dialect.{Dialect}
+use Rattle.conn_model.specs.declared.plan.Target.{Target}
+use Rattle.conn_manager.specs.Views.{View}
+use Rattle.conn_manager.specs.declared.instrumentation.NoInstrumentation.{NoInstrumentation}
+use Rattle.conn_reading.specs.Seats.{Seat, Context}
 use Rattle.conn_server.specs.Connected.{Connected}
-use Rattle.conn_session.specs.Accounts.{Accounts, faults}
-use Rattle.conn_session.specs.Plays.{Plays, PlaysAll, PlaysOn, IsRefused, IsUnopened}
-use Rattle.conn_reading.specs.Seats.{Seat, Context, place_of}
+use Rattle.conn_session.specs.Responses.{seat_of, shows}
 use Rattle.conn_session.specs.declared.connection.ServerConnection.{ServerConnection}
 use Rattle.conn_session.specs.declared.session.Session.{Session}
 
--- the context, where the servers are, the attempts to open one since a plan was armed, the plan, and how often the
--- connector refused
+-- How connections are opened, how many slots there are, the slots that aren't handed out, front first, and the connections
+-- that are, each at the place of its number.
+pub record Pool : Type 0 where
+  pub dialect : Dialect
+  pub target : Target
+  pub size : ℕ
+  pub slots : List (Option View)
+  pub out : List (Option View)
+
+-- a pool, and the connector from which its servers come
 pub record World : Type 0 where
-  pub context : Context
-  pub slots : List Seen
-  pub out : List Seen
-  pub returned : List Seen
-  pub attempts : ℕ
-  pub plan : List PlanLine
-  pub failures : ℕ
+  pub pool : Pool
+  pub connector : Connected
 
--- each server that was opened is in one place
-abbrev pub IsAccounted : World → Type 0
-IsAccounted w = Accounts w.context.opened w.slots w.out w.returned
-
--- the refusals that the servers of a number counted, wherever they are
-abbrev pub faults_in : ℕ → World → ℕ
-faults_in n w = faults n w.slots + faults n w.out + faults n w.returned
-
--- no count of refusals fell
-pub record IsLater (old new : World) : Type 0 where
-  pub later : old.failures ≤ new.failures
-  pub faults_later : (n : ℕ) → faults_in n old ≤ faults_in n new
-
--- an entry has a server's refusal only where its connection's server counted one, and says that none was opened only
--- where the connector's count rose
-pub record IsCausedBy (servers : ℕ → ℕ) (before now : ℕ) (entry : Entry) : Type 0 where
-  pub refused : IsRefused entry.reply → (n : ℕ) × (entry.connection ≡ Some n) × (0 < servers n)
-  pub unopened : IsUnopened entry.reply → Rose before now
-
--- the same from one world to another
-abbrev pub IsCausedIn : World → World → Entry → Type 0
-IsCausedIn old new = IsCausedBy (λ n. faults_in n new) old.failures new.failures
-
--- an entry has its cause in what counted
-pub record Causes (old new : World) (entry : Entry) : Type 0 where
-  pub counts : IsLater old new
-  pub caused : IsCausedIn old new entry
-
--- one command: no server is lost, and where it ends with an entry it played
-pub record Steps {E : Type 0} (old new : World) (line : ℕ) (act : Act) (result : Result Entry E) : Type 0 where
-  pub accounts : IsAccounted old → IsAccounted new
-  pub plays : IfOk result (λ entry. Plays old.context line act entry new.context)
-  pub causes : IfOk result (Causes old new)
-
--- a command on connection n
-pub record StepsOn {E : Type 0} (act : Act) (n : ℕ) (old new : World) (line : ℕ) (result : Result Entry E) : Type 0 where
-  pub accounts : IsAccounted old → IsAccounted new
-  pub plays : IfOk result (λ entry. PlaysOn line act n old.context entry new.context (place_of n old.context.out 0))
-  pub causes : IfOk result (Causes old new)
-
--- some commands, with the entries so far
-pub record Runs (old new : World) (commands : List Command) (entries : List Entry) : Type 0 where
-  pub accounts : IsAccounted old → IsAccounted new
-  pub plays : PlaysAll old.context commands entries new.context
-  pub counts : IsLater old new
-  pub caused : AllByRecursion (IsCausedIn old new) entries
-
--- every server is with the connector
-pub record Closes (old : World) (new : Connected) : Type 0 where
-  pub same : new.opened ≡ old.context.opened
-  pub accounts : IsAccounted old → Accounts new.opened [] [] new.returned
-  pub counts : new.failures ≡ old.failures
-  pub faults_later : (n : ℕ) → faults_in n old ≤ faults n new.returned
-
--- the state that a server's log gives, where it is told and lawful
-abbrev pub state_told : Seen → State
-state_told s = unwrap_or (state_seen s) (Idle [])
+-- a pool of one empty slot
+abbrev pub new_pool : Dialect → Target → Pool
+new_pool dialect target = record { dialect = dialect; target = target; size = 1; slots = None ∷ []; out = [] }
 
 module _ {S : Type 0} (seen : S → Seen) where
-  -- a connection, as a reader of logs has it
-  abbrev pub seat_of : ServerConnection S → Seat
-  seat_of c = record { number = (seen c.server).number; status = c.status; mark = (seen c.server).sent; state = state_told (seen c.server) }
+  -- what a connection of the session shows, whose handler tells nothing
+  abbrev pub view_of : ServerConnection S NoInstrumentation → View
+  view_of c = shows seen (λ h. None) c
 
-  -- its server
-  abbrev pub held_of : ServerConnection S → Seen
-  held_of c = seen c.server
+  -- what connections show, where they are
+  abbrev pub views_of : List (Option (ServerConnection S NoInstrumentation)) → List (Option View)
+  views_of cs = map (option_map view_of) cs
 
-  -- the servers in slots
-  abbrev pub held_in : List (Option (ServerConnection S)) → List Seen
-  held_in slots = filter_map (option_map held_of) slots
+  -- what a session shows
+  abbrev pub pool_of : Session S → Pool
+  pool_of s = record { dialect = s.dialect; target = s.target; size = s.size; slots = views_of s.slots.items; out = views_of s.out.items }
 
-  -- what slots, connections that are out and a connector make
-  abbrev pub world : List (Option (ServerConnection S)) → List (ServerConnection S) → Connected → World
-  world slots out k = record {
-    context = record { slots = map (option_map seat_of) slots; out = map seat_of out; opened = k.opened };
-    slots = held_in slots;
-    out = map held_of out;
-    returned = k.returned;
-    attempts = k.attempts;
-    plan = k.armed;
-    failures = k.failures;
-  }
-
-  -- the same of a session
+  -- a session and its connector
   abbrev pub world_of : Session S → Connected → World
-  world_of s k = world s.slots.items s.out.items k
+  world_of s connector = record { pool = pool_of s; connector = connector }
 
-  -- how many connections a session has
-  abbrev pub size_of : Session S → ℕ
-  size_of s = length (held_in s.slots.items) + length s.out.items
+-- ---- as a reader of logs has them
+
+-- the connections, where they are
+abbrev pub seats_of : List (Option View) → List (Option Seat)
+seats_of vs = map (option_map seat_of) vs
+
+-- the whole of them
+abbrev pub context_of : World → Context
+context_of w = record { slots = seats_of w.pool.slots; out = seats_of w.pool.out; opened = w.connector.opened }
+
+-- ---- each server is in one place
+
+-- a measure of the server of a connection, and 0 where there is none
+abbrev pub part : (Seen → ℕ) → Option View → ℕ
+part f None = 0
+part f (Some v) = f v.seen
+
+-- the sum of a measure over all servers, wherever they are
+abbrev pub sum_all : (Seen → ℕ) → World → ℕ
+sum_all f w = sum_by (part f) w.pool.slots + sum_by (part f) w.pool.out + sum_by f w.connector.returned
+
+-- 1 for a server of this number
+abbrev pub of_number : ℕ → Seen → ℕ
+of_number n s = if s.number == n then 1 else 0
+
+-- the refusals that a server of this number counted
+abbrev pub refusals : ℕ → Seen → ℕ
+refusals n s = if s.number == n then s.failures else 0
+
+-- 1 for every server
+abbrev pub each_server : Seen → ℕ
+each_server s = 1
+
+-- each server that was opened is in one place, once, and no other server is in any
+pub record Accounts (w : World) : Type 0 where
+  pub once : (n : ℕ) → n < w.connector.opened → sum_all (of_number n) w ≡ 1
+  pub none : (n : ℕ) → w.connector.opened ≤ n → sum_all (of_number n) w ≡ 0
+
+-- connections stand at the places of their numbers, of which this is the first
+abbrev pub ArePlaced : ℕ → List (Option View) → Type 0
+ArePlaced n [] = ⊤
+ArePlaced n (None ∷ vs) = ArePlaced (suc n) vs
+ArePlaced n (Some v ∷ vs) = (v.seen.number ≡ n) × ArePlaced (suc n) vs
+
+-- what holds of a session at each command: each server is in one place; there is a place for the number of each server that was
+-- opened; each slot is in the pool or was given for a connection that is out; and the connector can take all servers back
+pub record Invariant (w : World) : Type 0 where
+  pub accounts : Accounts w
+  pub places : length w.pool.out ≡ w.connector.opened
+  pub placed : ArePlaced 0 w.pool.out
+  pub slots : length w.pool.slots + sum_by (part each_server) w.pool.out ≡ w.pool.size
+  pub room : sum_by (part each_server) w.pool.slots + sum_by (part each_server) w.pool.out ≤ w.connector.room

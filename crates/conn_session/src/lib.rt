@@ -2,7 +2,7 @@
 #![tactic(auto)]
 
 mod connection;
-mod run;
+mod places;
 mod session;
 mod top;
 mod transcript;

@@ -1,35 +1,26 @@
 //! A whole session: its commands run, and its servers given back.
-ghost use Rattle.std.specs.Prelude.{◌≡◌, true, [], IfOk, OnOk, IsSome, Some};
-ghost use Rattle.conn_script.specs.Grammar.{script_of, Gives};
-ghost use Rattle.conn_script.specs.declared.command.SessionError.TheVariants.{OutOfMemory as out_of_memory};
+ghost use Rattle.std.specs.Prelude.{◌≡◌, [], IfOk, IsSome, Some};
+ghost use Rattle.conn_script.specs.Grammar.{script_of};
 ghost use Rattle.conn_model.specs.declared.plan.Target.TheVariants.{Url as url};
 ghost use Rattle.conn_server.specs.Connected.{AreAt, writes_by, count_writes, write_at};
-ghost use Rattle.std.specs.List.{AllByRecursion};
-ghost use Rattle.conn_session.specs.Accounts.{AllBack, faults, servers_of};
-ghost use Rattle.conn_session.specs.Worlds.{IsCausedBy};
-ghost use Rattle.conn_session.specs.Plays.{IsPlayed};
-ghost use Rattle.conn_session.specs.Commands.{IsAnswered, EachTold, IsParsed, Transcribes, Sessions};
+ghost use Rattle.conn_session.specs.Accounts.{AllBack, servers_of};
+ghost use Rattle.conn_session.specs.Commands.{IsParsed, RunsScript, Transcribes, Sessions};
 
-use crate::run::{close_all, run_all};
-use crate::session::{Opening, Session};
+use crate::session::Session;
 use conn_report::{Entry, Servers, Texts, Transcript};
 use conn_script::{Script, SessionError, parse_script};
-use conn_server::{Connector, Target, Text};
+use conn_server::{Connector, Target};
 use sqlite_items::Items;
 use std::alloc::{AllocError, Global};
 
-/// A copy of one committed write of a server.
-fn copy_write<K: Connector>(
-    alloc: Global,
-    connector: &K,
-    server: u32,
-    place: u64,
-) -> Result<Text, AllocError>
+/// One committed write of a server.
+fn write_of<K: Connector>(connector: &K, server: u32, place: u64) -> &str
     requires { IsSome (write_at K.S.is_honest server place (K.held connector.now).returned) }
-    ensures { IfOk result (λ text. write_at K.S.is_honest server place (K.held connector.now).returned ≡ Some text) }
+    ensures { write_at K.S.is_honest server place (K.held connector.now).returned
+        ≡ Some result.now }
 {
     match connector.write(server, place) {
-        Some(text) => Text::new(alloc, text),
+        Some(text) => text,
         None => unreachable!(),
     }
 }
@@ -42,18 +33,20 @@ fn copy_writes<K: Connector>(
     count: u64,
 ) -> Result<Texts, AllocError>
     requires { count_writes K.S.is_honest server (K.held connector.now).returned ≡ Some count }
-    ensures { IfOk result (λ texts. writes_by K.S.is_honest server (K.held connector.now).returned ≡ Some texts) }
+    ensures { IfOk result (λ texts.
+        writes_by K.S.is_honest server (K.held connector.now).returned ≡ Some texts) }
 {
-    let mut texts = Items::new(alloc);
+    let mut texts = Texts::new(alloc);
     for place in 0..count {
-        texts.push(copy_write(alloc, connector, server, place)?)?;
+        texts.push(write_of(connector, server, place))?;
     }
     Ok(texts)
 }
 
 /// Copies the committed writes of every server, by number, where they are told.
 fn all_writes<K: Connector>(alloc: Global, connector: &K) -> Result<Servers, AllocError>
-    ensures { IfOk result (λ servers. servers ≡ servers_of K.S.is_honest (K.held connector.now).opened (K.held connector.now).returned) }
+    ensures { let k = K.held connector.now in
+        IfOk result (λ servers. servers ≡ servers_of K.S.is_honest k.opened k.returned) }
 {
     let mut servers = Items::new(alloc);
     for server in 0..connector.opened() {
@@ -74,33 +67,17 @@ fn run_commands<K: Connector>(
 ) -> Result<Vec<Entry>, AllocError>
     requires none_opened { (K.held connector.old).opened ≡ 0 }
     requires none_returned { (K.held connector.old).returned ≡ [] }
-    ensures answered { K.is_honest ≡ true → (K.held connector.old).attempts ≡ 0 → (K.held connector.old).armed ≡ script.now.plan → IfOk result (λ entries. IsAnswered script.now (K.held connector.new) entries.items) }
-    ensures kept { K.is_honest ≡ true → OnOk result (EachTold script.now.dialect (K.held connector.new) (λ n. writes_by true n (K.held connector.new).returned)) }
-    ensures aims { AreAt (url script.now.url) (K.held connector.old).targets → AreAt (url script.now.url) (K.held connector.new).targets }
-    ensures caused { IfOk result (λ entries. AllByRecursion (IsCausedBy (λ n. faults n (K.held connector.new).returned) (K.held connector.old).failures (K.held connector.new).failures) entries.items) }
-    ensures played { IfOk result (λ entries. IsPlayed script.now.commands entries.items) }
-    ensures back { AllBack (K.held connector.new).opened (K.held connector.new).returned }
+    ensures runs { IfOk result (λ entries. RunsScript K.is_honest script.now
+        (K.held connector.old) (K.held connector.new) entries.items) }
+    ensures aims { AreAt (url script.now.url) (K.held connector.old).targets
+        → AreAt (url script.now.url) (K.held connector.new).targets }
+    ensures back { AllBack (K.held connector.new) }
     ensures armed { (K.held connector.new).armed ≡ (K.held connector.old).armed }
 {
     let target = Target::Url(script.url.copy(alloc)?);
-    let opening = Opening {
-        dialect: script.dialect,
-        target,
-    };
-    let mut slots = Vec::new(alloc);
-    slots.push(None)?;
-    let mut session = Session {
-        slots,
-        out: Vec::new(alloc),
-    };
-    let entries = run_all(
-        alloc,
-        &opening,
-        script.commands.as_slice(),
-        &mut session,
-        connector,
-    );
-    close_all(session, connector);
+    let mut session = Session::new(alloc, script.dialect, target)?;
+    let entries = session.run_all(script.commands.as_slice(), connector);
+    session.close(connector);
     entries
 }
 
@@ -113,8 +90,9 @@ fn run_script<K: Connector>(
     requires none_opened { (K.held connector.old).opened ≡ 0 }
     requires none_returned { (K.held connector.old).returned ≡ [] }
     requires parsed { IsParsed script.now }
-    ensures transcribes { IfOk result (Transcribes K.is_honest K.S.is_honest script.now (K.held connector.old) (K.held connector.new)) }
-    ensures back { AllBack (K.held connector.new).opened (K.held connector.new).returned }
+    ensures transcribes { IfOk result (Transcribes K.is_honest K.S.is_honest script.now
+        (K.held connector.old) (K.held connector.new)) }
+    ensures back { AllBack (K.held connector.new) }
 {
     connector.arm(alloc, script.plan.as_slice())?;
     let entries = run_commands(alloc, script, connector)?;
@@ -136,8 +114,9 @@ pub fn run_session<K: Connector>(
 ) -> Result<Transcript, SessionError>
     requires none_opened { (K.held connector.old).opened ≡ 0 }
     requires none_returned { (K.held connector.old).returned ≡ [] }
-    ensures session { Sessions K.is_honest K.S.is_honest (script_of script.now) (K.held connector.old) (K.held connector.new) result }
-    ensures back { AllBack (K.held connector.new).opened (K.held connector.new).returned }
+    ensures session { Sessions K.is_honest K.S.is_honest (script_of script.now)
+        (K.held connector.old) (K.held connector.new) result }
+    ensures back { AllBack (K.held connector.new) }
 {
     match parse_script(alloc, script) {
         Ok(script) => match run_script(alloc, &script, connector) {

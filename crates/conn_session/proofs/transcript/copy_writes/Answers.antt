@@ -3,11 +3,11 @@ use Rattle.std.proofs.lemmas.List.{take_all}
 use Rattle.conn_session.proofs.Kept.{counted, one_more, is_there}
 use Rattle.conn_session.proofs.transcript.copy_writes.Goals as goal
 
-pub copy_write-requires : goal.copy_write-requires
-copy_write-requires g c = is_there _ c.args.count c.loop-place.place c.requires c.loop-place-test.true
+pub write_of-requires : goal.write_of-requires
+write_of-requires g c = is_there _ c.args.count c.loop-place.place c.requires c.loop-place-test.true
 
 pub loop-place-preserved : goal.loop-place-preserved
-loop-place-preserved g c = λ writes e. c.in_ok-push.ensures.ok ∙ one_more _ writes c.loop-place.texts c.loop-place.place c.in_ok-copy_write.field-0 e c.in_ok-copy_write.ensures (c.loop-place.invariant writes e)
+loop-place-preserved g c = λ writes e. c.in_ok-push.ensures ∙ one_more _ writes c.loop-place.texts c.loop-place.place c.write_of.result.now e c.write_of.ensures (c.loop-place.invariant writes e)
 
 pub returns : goal.returns
 returns g c =

@@ -1,0 +1,47 @@
+-- What the lines so far say, and what one line more adds.
+use Rattle.std.specs.Prelude.{ℕ, ◌&&◌, not, Bool, false, nat_le, [], ◌∷◌, ◌++◌, length, Option, codes}
+use Rattle.conn_model.specs.declared.item.Dialect.TheVariants as dialects
+use Rattle.conn_model.specs.declared.plan.PlanLine.{PlanLine}
+use Rattle.conn_script.specs.Keys.{is_named_in}
+use Rattle.conn_script.specs.Options.{guard}
+use Rattle.conn_script.specs.Plans.{compare_items, is_setup, refused_key, refused_line}
+use Rattle.conn_script.specs.declared.command.Act.{Act}
+use Rattle.conn_script.specs.declared.command.Customizer.TheVariants as customizers
+use Rattle.conn_script.specs.declared.command.Script.{Script}
+use Rattle.conn_script.specs.declared.plan.Refused.{Refused}
+
+-- a script so far
+pub record Draft : Type 0 where
+  pub script : Script
+
+-- the draft of a script
+abbrev pub drafted : Script → Draft
+drafted script = record { script = script }
+
+-- a session over SQLite with a pool of one connection, which is neither customized nor checked
+abbrev pub empty_script : Script
+empty_script = record { dialect = dialects.Sqlite; max_size = 1; customizer = customizers.Nop; check = false; url = codes ":memory:"; plan = []; commands = [] }
+
+-- the draft of the first line alone
+abbrev pub empty_draft : Draft
+empty_draft = drafted empty_script
+
+-- the draft with one command more, that of line n
+abbrev pub command_added : ℕ → Draft → Act → Draft
+command_added n d act = record d { script = record d.script { commands = d.script.commands ++ record { line = n; act = act } ∷ [] } }
+
+-- the draft with one line of the plan more
+abbrev pub plan_added : Draft → PlanLine → Draft
+plan_added d line = record d { script = record d.script { plan = d.script.plan ++ line ∷ [] } }
+
+-- the draft with one more item refused, which no other line may refuse, before the first command
+abbrev pub with_refused : Draft → Refused → Option Draft
+with_refused d r = guard (is_setup d.script.commands && not (is_named_in compare_items refused_key d.script.plan (r.server, r.item))) (plan_added d (refused_line r))
+
+-- the lines that are due can still come: a script has at most 1,048,576 commands
+abbrev pub can_close : Draft → Bool
+can_close d = nat_le (length d.script.commands) 1048576
+
+-- the draft, where it can be closed
+abbrev pub if_closable : Draft → Option Draft
+if_closable d = guard (can_close d) d

@@ -1,0 +1,61 @@
+-- A connection that asked what a deed asks, and made its reply of the answer, does as the deed promises.
+use Rattle.std.proofs.Common.{◌≡◌, ◌≢◌, ℕ, Bool, List, [], ◌∷◌, Option, Some, None, sym, ap, subst, Ok, Err, Result, inl, inr, IfOk}
+use Rattle.std.specs.Prelude.{IsErr, ◌↔◌}
+use Rattle.std.specs.declared.alloc.AllocError.{AllocError}
+use Rattle.conn_result.specs.declared.error.Error.{Error}
+use Rattle.conn_result.specs.declared.error.Error.TheVariants.{OutOfMemory}
+use Rattle.conn_model.specs.Acts.{Acts, IsSameServer}
+use Rattle.conn_model.specs.Process.{Sent, Follows}
+use Rattle.conn_model.specs.declared.item.Dialect.{Dialect}
+use Rattle.conn_model.specs.declared.item.Refusal.{Refusal}
+use Rattle.conn_model.proofs.Mapped.{acts_map}
+use Rattle.conn_manager.specs.Manages.{Done, done, Reply as Answer, HasServerCause, IsRefusal, send_process}
+use Rattle.conn_manager.specs.Statuses.{Status, reply_of}
+use Rattle.conn_manager.specs.Views.{View, ActsOrMemoryFrom}
+use Rattle.conn_reading.specs.Asking.{outcome, call_process, process_of, reply_as, told_as}
+use Rattle.conn_report.specs.declared.entry.Reply.{Reply}
+use Rattle.conn_script.specs.declared.request.Deed.{Deed}
+use Rattle.conn_script.specs.declared.request.Deed.TheVariants as deeds
+use Rattle.conn_session.specs.Responses.{Replies, Does, IsAnswer, IsRefused}
+
+-- a text is answered by its server alone
+text_answered : (d : Dialect) (text : List ℕ) (s : Status) (sent : List Sent) (a : Done) → Follows (send_process d text s) sent a → (refusal : Option Refusal) × (a.reply ≡ reply_of refusal)
+text_answered d text s [] a h = absurd h
+text_answered d text s (i ∷ []) a h = (i.heard.refusal, ap (λ (x : Done). x.reply) h.1)
+text_answered d text s (i ∷ j ∷ is) a h = absurd h.1
+
+server_error : (text : List ℕ) (answer : Answer) (refusal : Option Refusal) → answer ≡ reply_of refusal → IsAnswer (deeds.Batch text) (reply_as answer)
+server_error text answer None e = subst (λ (a : Answer). IsAnswer (deeds.Batch text) (reply_as a)) (sym e) tt
+server_error text answer (Some r) e = subst (λ (a : Answer). IsAnswer (deeds.Batch text) (reply_as a)) (sym e) tt
+
+is_answer : (deed : Deed) (d : Dialect) (s t : Status) (sent : List Sent) (answer : Answer) → answer ≢ Err OutOfMemory → Follows (call_process deed d s) sent (done answer t) → IsAnswer deed (reply_as answer)
+is_answer (deeds.Batch text) d s t sent answer memory h = (let a = text_answered d text s sent (done answer t) h in server_error text answer a.0 a.1)
+is_answer deeds.Begin d s t sent (Ok u) memory h = tt
+is_answer deeds.Begin d s t sent (Err e) memory h = λ same. memory (ap (λ (x : Error). Err x) same)
+is_answer deeds.Commit d s t sent (Ok u) memory h = tt
+is_answer deeds.Commit d s t sent (Err e) memory h = λ same. memory (ap (λ (x : Error). Err x) same)
+is_answer deeds.Rollback d s t sent (Ok u) memory h = tt
+is_answer deeds.Rollback d s t sent (Err e) memory h = λ same. memory (ap (λ (x : Error). Err x) same)
+
+refusal_is : (answer : Answer) → IsRefused (reply_as answer) → IsRefusal answer
+refusal_is (Ok u) h = absurd h
+refusal_is (Err e) h = h
+
+module _ (honest : Bool) (deed : Deed) (old new : View) (answer : Answer) (asks : ActsOrMemoryFrom honest (call_process deed) old new answer) (cause : HasServerCause old.seen new.seen answer) where
+  same_server : IsSameServer old.seen new.seen
+  same_server = elim asks [ inl h ↦ h.1.same | inr acts ↦ acts.same ]
+
+  answers : (reply : Reply) → reply ≡ reply_as answer → answer ≢ Err OutOfMemory → Replies honest deed old new reply
+  answers reply e memory = elim asks [
+    | inl h ↦ absurd (memory h.0)
+    | inr acts ↦ record {
+      acts = subst (λ (r : Reply). Acts honest (process_of old.seen.dialect deed old.status) old.seen new.seen (outcome r new.status)) (sym e)
+          (acts_map told_as honest (call_process deed old.seen.dialect old.status) old.seen new.seen (done answer new.status) acts);
+      answer = subst (IsAnswer deed) (sym e) (is_answer deed old.seen.dialect old.status new.status acts.sent answer memory acts.follows);
+      refused = λ h. cause.refused (refusal_is answer (subst IsRefused e h));
+    }
+  ]
+
+  pub does : (result : Result Reply AllocError) → IfOk result (λ reply. reply ≡ reply_as answer) → IsErr result ↔ (answer ≡ Err OutOfMemory) → Does honest deed old new result
+  does (Ok reply) e memory = record { same = same_server; later = cause.later; answered = answers reply e (λ h. let failed = memory.1 h in absurd (cc failed)) }
+  does (Err u) e memory = record { same = same_server; later = cause.later; answered = tt }
