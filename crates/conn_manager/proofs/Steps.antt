@@ -1,5 +1,6 @@
 -- The steps of a call over one connection: an event, room, a text, a status that is set.
-use Rattle.std.proofs.Common.{◌≡◌, ℕ, Bool, List, [], ◌∷◌, refl, ap, sym, ◌∙◌, subst, inl, inr}
+use Rattle.std.proofs.Common.{◌≡◌, ℕ, Bool, List, [], ◌∷◌, refl, ap, sym, ◌∙◌, subst, inl, inr, None, Err}
+use Rattle.conn_result.specs.declared.error.Error.TheVariants.{OutOfMemory}
 use Rattle.conn_model.specs.Acts.{Tells}
 use Rattle.conn_model.specs.Events.{Event, with_events}
 use Rattle.conn_model.specs.Process.{Process, Stop, Tell, map_process}
@@ -7,8 +8,8 @@ use Rattle.conn_model.specs.Seen.{Seen}
 use Rattle.conn_model.specs.declared.item.Dialect.{Dialect}
 use Rattle.conn_model.proofs.Mapped.{tells_map}
 use Rattle.conn_model.proofs.Telling.{stops_telling, tells_first, tells_in_room}
-use Rattle.conn_manager.specs.Manages.{Done, done, Reply, ask_text, send_process}
-use Rattle.conn_manager.specs.Statuses.{Status}
+use Rattle.conn_manager.specs.Manages.{Done, done, Reply, ask_text, send_process, begin_process, begin_test_process, with_test_mark, with_test_mark_in}
+use Rattle.conn_manager.specs.Statuses.{Status, valid}
 use Rattle.conn_manager.specs.Views.{View, with_event, TellsFrom, TellsOrMemoryFrom, ActsOrMemoryFrom}
 use Rattle.conn_manager.proofs.Asks.{asks_on}
 
@@ -61,6 +62,18 @@ module _ (honest : Bool) where
       let whole : Tells honest q old.seen mid.seen old.heeded mid.heeded a = subst (λ (x : Done). Tells honest q old.seen mid.seen old.heeded mid.heeded x) e (tells_map f honest (p old.seen.dialect old.status) old.seen mid.seen old.heeded mid.heeded (done r mid.status) tells) in
       let here : TellsFrom honest (λ d s. map_process f (p d s)) old (record mid { status = a.status }) reply = subst (λ (x : Reply). Tells honest q old.seen mid.seen old.heeded mid.heeded (done x a.status)) (sym answers) whole in
       subst (λ (v : View). TellsFrom honest (λ d s. map_process f (p d s)) old v reply) (sym set) here
+
+  -- a begin without a depth, and then the mark
+  pub begins_test : (r : Reply) (s : Status) (a : Done) (old mid new : View) (reply : Reply) → old.status ≡ valid None → TellsOrMemoryFrom honest begin_process old mid r → a ≡ with_test_mark_in r s → s ≡ mid.status → reply ≡ a.reply → new ≡ record mid { status = a.status }
+      → TellsOrMemoryFrom honest begin_test_process old new reply
+  begins_test r s a old mid new reply outside (inr tells) is_made is answers set =
+      inr (goes_as (λ d s1. map_process with_test_mark (begin_process d s1)) begin_test_process (valid None) old new reply outside (λ d. refl) (made with_test_mark begin_process r s a old mid new reply tells is_made is answers set))
+  begins_test r s a old mid new reply outside (inl memory) is_made is answers set =
+      let wants : a ≡ done (Err OutOfMemory) mid.status = is_made ∙ ap (λ (x : Reply). with_test_mark_in x s) memory.0 ∙ ap (done (Err OutOfMemory)) is in
+      let same : mid ≡ new = sym (set ∙ ap (λ (x : Done). record mid { status = x.status }) wants) in
+      let here : TellsOrMemoryFrom honest begin_test_process old mid (Err OutOfMemory) = inl (refl, memory.1, memory.2) in
+      subst (λ (v : View). TellsOrMemoryFrom honest begin_test_process old v reply) same
+      (subst (λ (x : Reply). TellsOrMemoryFrom honest begin_test_process old mid x) (sym (answers ∙ ap (λ (x : Done). x.reply) wants)) here)
 
   -- a call that tells acts
   pub acts_from : (process : Dialect → Status → Process Done) (old new : View) (reply : Reply) → TellsOrMemoryFrom honest process old new reply → ActsOrMemoryFrom honest process old new reply

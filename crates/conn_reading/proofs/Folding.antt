@@ -37,7 +37,7 @@ pub record Takes (d : Dialect) (s : State) (text : List ℕ) (S : Status) (f : S
   pub is : accepts d s text ≡ Some s'
   pub ends : a ≡ f (retold d None (told_of d s') S)
 
-stopped : (d : Dialect) (s : State) (x : Done) (items : List Item) (a : Done) (s' : State) → Reads d s (Stop x) items a s' → (items ≡ []) × (a ≡ x) × (s' ≡ s)
+pub stopped : (d : Dialect) (s : State) (x : Done) (items : List Item) (a : Done) (s' : State) → Reads d s (Stop x) items a s' → (items ≡ []) × (a ≡ x) × (s' ≡ s)
 stopped d s x [] a s' reads = (refl, reads.0, reads.1)
 stopped d s x (i ∷ is) a s' reads = absurd reads
 

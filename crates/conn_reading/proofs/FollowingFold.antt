@@ -10,14 +10,16 @@ use Rattle.conn_model.specs.declared.item.Item.{Item}
 use Rattle.conn_manager.specs.Manages.{Done, Reply}
 use Rattle.conn_manager.specs.Statuses.{Status, no_depth}
 use Rattle.conn_reading.specs.Folds.{Stack, alone, Nested, IsDoomed, after_items, after_reply, Commits, Sends, kind_of, after_step, fold_of, refuses_transaction, SetsInOpen, KeepsLive, AllKeepLive, FoldPremises, HoldsStack, NestedMeaning}
-use Rattle.conn_reading.specs.Histories.{Operation, Begin, BeginBy, Commit, Rollback, Asks, left_status, IsOperation, operation_process, Step, Follow, step_items, IsHistory}
+use Rattle.conn_reading.specs.Histories.{Operation, Begin, BeginBy, Commit, Rollback, TestBegin, Close, Asks, left_status, IsOperation, operation_process, Step, Follow, step_items, IsHistory}
 use Rattle.conn_reading.specs.Reading.{Reads}
 use Rattle.conn_reading.specs.Verdicts.{Part, part_of, Holds}
+use Rattle.conn_reading.proofs.BlockEnds.{close_folds}
 use Rattle.conn_reading.proofs.Folding.{begin_folds, begin_sql_folds, commit_folds, rollback_folds}
 use Rattle.conn_reading.proofs.Following.{step_sound, history_sound}
 use Rattle.conn_reading.proofs.Levels.{holds_stack}
 use Rattle.conn_reading.proofs.Logs.{Sound, sound_at_first}
 use Rattle.conn_reading.proofs.PlainNesting.{plainly_nests}
+use Rattle.conn_reading.proofs.TestBegins.{test_begin_folds}
 
 live_when : (r : Reply) (k : Stack) → KeepsLive Commits r k → r ≡ Ok tt → IsDoomed k.levels → ⊥
 live_when (Ok u) k live ok = live
@@ -34,6 +36,8 @@ operation_folds d Begin S s p items a end k is h n reads none opens live = begin
 operation_folds d (BeginBy text) S s p items a end k is h n reads none opens live = begin_sql_folds d S s p text items a end k is h n reads none
 operation_folds d Commit S s p items a end k is h n reads none opens live = commit_folds d S s p items a end k h n reads none (live_when a.reply (after_items items k) live)
 operation_folds d Rollback S s p items a end k is h n reads none opens live = rollback_folds d S s p items a end k h n reads none
+operation_folds d TestBegin S s p items a end k is h n reads none opens live = test_begin_folds d S s p items a end k h n reads none opens
+operation_folds d (Close kind answer) S s p items a end k is h n reads none opens live = close_folds d kind answer S s p items a end k h n reads none live
 operation_folds d (Asks f) S s p items a end k is h n reads none opens live = sent_as a.status end a.reply (after_items items k) (plainly_nests d left_status S s (f d S) items a end k (is d S) n reads)
 
 pub or_false : (a b : Bool) → (a || b) ≡ false → (a ≡ false) × (b ≡ false)

@@ -7,12 +7,12 @@ use Rattle.std.proofs.lemmas.List.{length-append}
 use Rattle.conn_model.specs.declared.item.Item.{Item}
 use Rattle.conn_report.specs.declared.entry.Reply.{Reply}
 use Rattle.conn_script.specs.declared.command.Word.{Word}
-use Rattle.conn_script.specs.declared.request.Deed.{Deed}
 use Rattle.conn_reading.specs.Answered.{ServerLogs, Progress, taken, with_left, reads_on, taken_on, seat_after}
 use Rattle.conn_reading.specs.Asking.{Outcome, outcome, process_of}
 use Rattle.conn_reading.specs.Reading.{Read, read, ReadsItems, BeginsAnew}
 use Rattle.conn_reading.specs.Readings.{ReadsEntry}
 use Rattle.conn_reading.specs.Seats.{Seat, entry_on, at_number}
+use Rattle.conn_reading.specs.declared.deed.Deed.{Deed}
 
 -- items of this server, and none of another
 abbrev pub only : ℕ → List Item → ServerLogs

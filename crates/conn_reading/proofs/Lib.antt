@@ -5,6 +5,8 @@ pub mod InPlace
 pub mod Same
 pub mod Items
 pub mod Safe
+pub mod TestBegins
+pub mod BlockEnds
 pub mod Plain
 pub mod Tracked
 pub mod Beginning

@@ -4,13 +4,15 @@ use Rattle.std.specs.Prelude.{⊤, nat_lt, if◌then◌else◌}
 use Rattle.conn_result.specs.declared.error.Error.{Error}
 use Rattle.conn_model.specs.Process.{Process, Stop, Ask, Look, Tell, Heard, map_process}
 use Rattle.conn_model.specs.declared.item.Dialect.{Dialect}
-use Rattle.conn_manager.specs.Manages.{Reply, begin_process, begin_in, commit_process, commit_in, rollback_process, rollback_in, committed, uncommitted, uncommitted_in, rolls_back, send_process}
+use Rattle.conn_manager.specs.Manages.{Reply, begin_process, begin_in, with_test_mark, begin_test_in, begin_test_process, commit_process, commit_in, rollback_process, rollback_in, committed, uncommitted, uncommitted_in, rolls_back, send_process}
 use Rattle.conn_manager.specs.Statuses.{Status, retold, reply_of}
 use Rattle.conn_manager.specs.declared.status.InTransactionStatus.{InTransactionStatus}
 use Rattle.conn_manager.specs.declared.status.TransactionManagerStatus.TheVariants.{Valid, InError}
-use Rattle.conn_script.specs.declared.request.Deed.{Deed}
-use Rattle.conn_script.specs.declared.request.Deed.TheVariants as deeds
-use Rattle.conn_reading.specs.Asking.{told_as, process_of}
+use Rattle.conn_script.specs.declared.command.BlockKind.{BlockKind}
+use Rattle.conn_script.specs.declared.command.BlockKind.TheVariants.{Plain, Test}
+use Rattle.conn_reading.specs.Asking.{rollback_answer, with_answer, close_process, told_as, process_of}
+use Rattle.conn_reading.specs.declared.deed.Deed.{Deed}
+use Rattle.conn_reading.specs.declared.deed.Deed.TheVariants as deeds
 
 -- rows are asked only where an item was asked just before
 abbrev pub LooksWell : {A : Type 0} → Bool → Process A → Type 0
@@ -68,6 +70,19 @@ rollbacks_look : (d : Dialect) (s : Status) → LooksWell false (rollback_proces
 rollbacks_look d (Valid v) = rollback_looks d (Valid v) v.in_transaction
 rollbacks_look d InError = tt
 
+begin_test_looks : (d : Dialect) (s : Status) (o : Option InTransactionStatus) → LooksWell false (begin_test_in d s o)
+begin_test_looks d s None = looks_map with_test_mark false (begin_in d s None) (begin_looks d s None)
+begin_test_looks d s (Some t) = tt
+
+test_begins_look : (d : Dialect) (s : Status) → LooksWell false (begin_test_process d s)
+test_begins_look d (Valid v) = begin_test_looks d (Valid v) v.in_transaction
+test_begins_look d InError = tt
+
+closings_look : (kind : BlockKind) (answer : Reply) (d : Dialect) (s : Status) → LooksWell false (close_process kind answer d s)
+closings_look Plain (Ok u) d s = commits_look d s
+closings_look Plain (Err e) d s = looks_map (with_answer (rollback_answer e)) false (rollback_process d s) (rollbacks_look d s)
+closings_look Test answer d s = looks_map (with_answer (λ _. answer)) false (rollback_process d s) (rollbacks_look d s)
+
 -- ---- all commands
 
 -- a command on a connection looks at rows only after a run
@@ -76,3 +91,5 @@ command_looks d (deeds.Batch text) s = looks_map told_as false (send_process d t
 command_looks d deeds.Begin s = looks_map told_as false (begin_process d s) (begins_look d s)
 command_looks d deeds.Commit s = looks_map told_as false (commit_process d s) (commits_look d s)
 command_looks d deeds.Rollback s = looks_map told_as false (rollback_process d s) (rollbacks_look d s)
+command_looks d deeds.TestBegin s = looks_map told_as false (begin_test_process d s) (test_begins_look d s)
+command_looks d (deeds.Close kind answer) s = looks_map told_as false (close_process kind answer d s) (closings_look kind answer d s)

@@ -8,8 +8,8 @@ use Rattle.std.proofs.lemmas.List.{take-append-drop}
 use Rattle.std.proofs.lemmas.Slice.Eq.{bytes_eq-Decides}
 use Rattle.conn_model.specs.Classes.{class, begins, is_begin, is_built, is_write, same_text, number_behind}
 use Rattle.conn_model.specs.Numbers.{number}
-use Rattle.conn_script.specs.Drafts.{Draft, empty_draft, command_added, with_refused, can_close, if_closable}
-use Rattle.conn_script.specs.Grammar.{connection_alone, act_from, act_of, with_words, with_text, next, lines_of, judged_last, or_bad, judged, script_of}
+use Rattle.conn_script.specs.Drafts.{Draft, empty_draft, command_added, with_command, with_refused, can_close, if_closable}
+use Rattle.conn_script.specs.Grammar.{connection_alone, kind_named, act_from, act_of, with_words, with_text, next, lines_of, judged_last, or_bad, judged, script_of}
 use Rattle.conn_script.specs.Options.{◌>>=◌, guard}
 use Rattle.conn_script.specs.Plans.{refused_of}
 use Rattle.conn_script.specs.Requests.{request_of}
@@ -123,6 +123,11 @@ act_plain words.Batch rest =
 act_plain words.Begin rest = there_map ActPlain (connection_alone rest) acts.Begin (λ n. tt)
 act_plain words.Commit rest = there_map ActPlain (connection_alone rest) acts.Commit (λ n. tt)
 act_plain words.Rollback rest = there_map ActPlain (connection_alone rest) acts.Rollback (λ n. tt)
+act_plain words.TestBegin rest = there_map ActPlain (connection_alone rest) acts.TestBegin (λ n. tt)
+act_plain words.Transaction rest =
+    there_bind ActPlain rest _ (λ text. there_bind ActPlain (number 4294967296 (split_at 32 text).0) _ (λ c. there_bind ActPlain ((split_at 32 text).1 >>= kind_named) _ (λ kind. tt)))
+act_plain words.End rest = there_map ActPlain (connection_alone rest) acts.End (λ n. tt)
+act_plain words.Fail rest = there_map ActPlain (connection_alone rest) acts.Fail (λ n. tt)
 
 plain-append : (xs ys : List Command) → AllPlain xs → AllPlain ys → AllPlain (xs ++ ys)
 plain-append [] ys h g = g
@@ -135,10 +140,10 @@ DraftPlain d = AllPlain d.script.commands
 words_plain : (n : ℕ) (d : Draft) (line : List ℕ × Option (List ℕ)) → DraftPlain d → IfThere DraftPlain (with_words n d line)
 words_plain n d line h = by_word (bytes_eq line.0 (codes "refuse"))
   where
-    by_word : (b : Bool) → IfThere DraftPlain (if b then (refused_of line.1 >>= with_refused d) else option_map (command_added n d) (act_of line.0 line.1))
+    by_word : (b : Bool) → IfThere DraftPlain (if b then (refused_of line.1 >>= with_refused d) else (act_of line.0 line.1 >>= with_command n d))
     by_word true = there_bind DraftPlain (refused_of line.1) (with_refused d) (λ r. there_guard DraftPlain _ _ (λ e. h))
-    by_word false = there_map_if ActPlain DraftPlain (act_of line.0 line.1) (command_added n d) (there_bind ActPlain (word_named line.0) (λ word. act_from word line.1) (λ word. act_plain word line.1))
-        (λ act g. plain-append d.script.commands (record { line = n; act = act } ∷ []) h (g, tt))
+    by_word false = there_bind_if ActPlain DraftPlain (act_of line.0 line.1) (with_command n d) (there_bind ActPlain (word_named line.0) (λ word. act_from word line.1) (λ word. act_plain word line.1))
+        (λ act g. there_guard DraftPlain _ (command_added n d act) (λ e. plain-append d.script.commands (record { line = n; act = act } ∷ []) h (g, tt)))
 
 text_plain : (n : ℕ) (d : Draft) (line : List ℕ) → DraftPlain d → IfThere DraftPlain (with_text n d line)
 text_plain n d line h = there_bind_if DraftPlain DraftPlain (with_words n d (split_at 32 line)) if_closable (words_plain n d (split_at 32 line) h) (λ e g. there_guard DraftPlain (can_close e) e (λ c. g))
@@ -152,7 +157,11 @@ next_plain n (Some d) line h =
     ]
 
 last_plain : (n : ℕ) (o : Option Draft) (last : List ℕ) (script : Script) → IfThere DraftPlain o → judged_last n o last ≡ Ok script → AllPlain script.commands
-last_plain n (Some d) [] script h is = let e : d.script ≡ script = cc in subst (λ (s : Script). AllPlain s.commands) e h
+last_plain n (Some d) [] script h is = by_blocks (d.blocks == 0) is
+  where
+    by_blocks : (b : Bool) → (if b then Ok d.script else Err n) ≡ Ok script → AllPlain script.commands
+    by_blocks true e = let same : d.script ≡ script = cc in subst (λ (s : Script). AllPlain s.commands) same h
+    by_blocks false e = absurd (cc)
 last_plain n (Some d) (b ∷ bs) script h is = absurd (cc)
 last_plain n None last script h is = absurd (cc)
 

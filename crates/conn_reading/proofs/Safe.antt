@@ -2,7 +2,7 @@
 use Rattle.std.proofs.Common.{◌≡◌, ℕ, Bool, true, false, ◌||◌, if◌then◌else◌, List, [], refl, Some, None, Ok, Err}
 use Rattle.conn_result.specs.declared.error.Error.TheVariants.{DatabaseError}
 use Rattle.conn_model.specs.Classes.{class}
-use Rattle.conn_model.specs.Process.{Process, Stop, Ask, Look, Tell, refusal_of, plain_heard, given_rows}
+use Rattle.conn_model.specs.Process.{Process, Stop, Ask, Look, Tell, map_process, refusal_of, plain_heard, given_rows}
 use Rattle.conn_model.specs.Armed.{Values}
 use Rattle.conn_model.specs.States.{step_refused, State, step_by, commits, told_of, accepts, is_closed}
 use Rattle.conn_model.specs.declared.item.Answer.{Answer}
@@ -32,6 +32,20 @@ module _ {A : Type 0} (d : Dialect) (status : A → Status) where
   Safe s p (Look text next) =
       ((rows : List Values) → Safe s p (next (given_rows rows)))
       × ((r : Refusal) (e : Effect) (after : State) → step_by d s Fetch [] (Refused r e) ≡ Some after → Safe after (part_after p Fetch [] (Refused r e)) (next (plain_heard (Some r) (told_of d after))))
+
+-- so it is of the same process with another value, of which the invariant holds too
+pub safe_map : {A B : Type 0} (d : Dialect) (status : A → Status) (other : B → Status) (f : A → B) → ((a : A) (s : State) (p : Part) → Holds d (status a) s p → Holds d (other (f a)) s p)
+    → (s : State) (p : Part) (q : Process A) → Safe d status s p q → Safe d other s p (map_process f q)
+safe_map d status other f keeps s p (Stop a) h = keeps a s p h
+safe_map d status other f keeps s p (Tell event q) h = safe_map d status other f keeps s p q h
+safe_map d status other f keeps s p (Ask call text next) h = (
+  h.0,
+  λ answer after is b. safe_map d status other f keeps after (part_after p call text answer) (next (heard_with d after answer b)) (h.1 answer after is b),
+)
+safe_map d status other f keeps s p (Look text next) h = (
+  λ rows. safe_map d status other f keeps s p (next (given_rows rows)) (h.0 rows),
+  λ r e after is. safe_map d status other f keeps after (part_after p Fetch [] (Refused r e)) (next (plain_heard (Some r) (told_of d after))) (h.1 r e after is),
+)
 
 or-right : (a b : Bool) → b ≡ true → (a || b) ≡ true
 or-right true b e = refl

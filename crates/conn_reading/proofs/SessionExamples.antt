@@ -65,10 +65,10 @@ is_there : is_opened 0 the_entries ≡ true
 is_there = refl
 
 -- a is kept
-the_fold : (fold_entries 0 the_log the_entries unfolded).stack.lowest ≡ codes "INSERT a" ∷ []
+the_fold : (fold_entries 0 the_log the_script.commands the_entries unfolded).stack.lowest ≡ codes "INSERT a" ∷ []
 unfolding class is_begin is_built is_write same_text begins number_behind digits
 the_fold = refl
 
-they_meet : EntryPremises Sqlite 0 the_log the_entries
+they_meet : EntryPremises Sqlite 0 the_log the_script.commands the_entries
 unfolding class is_begin is_built is_write same_text begins number_behind digits
-they_meet = lawful_premises Sqlite 0 the_log the_entries (Idle (codes "INSERT a" ∷ [])) refl refl refl
+they_meet = lawful_premises Sqlite 0 the_log the_script.commands the_entries (Idle (codes "INSERT a" ∷ [])) refl refl refl

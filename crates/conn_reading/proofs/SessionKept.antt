@@ -3,15 +3,17 @@ use Rattle.std.proofs.Common.{◌≡◌, ℕ, ◌+◌, ◌<◌, ◌≤◌, Bool,
 use Rattle.std.specs.Prelude.{◌==◌, is_some, ⊤}
 use Rattle.conn_model.specs.declared.item.Dialect.{Dialect}
 use Rattle.conn_model.specs.declared.item.Item.{Item}
-use Rattle.conn_manager.specs.Statuses.{Status, no_depth}
+use Rattle.conn_manager.specs.Statuses.{Status, is_broken}
 use Rattle.conn_report.specs.declared.entry.Entry.{Entry}
 use Rattle.conn_report.specs.declared.entry.Reply.{Reply}
 use Rattle.conn_script.specs.declared.command.Word.{Word}
 use Rattle.conn_reading.specs.Answered.{ServerLogs, Progress, Taken}
-use Rattle.conn_reading.specs.Folds.{Stack, alone, AllKeepLive}
+use Rattle.conn_reading.specs.Folds.{alone, AllKeepLive}
 use Rattle.conn_reading.specs.Histories.{step_items}
 use Rattle.conn_reading.specs.Seats.{Seat, at_number}
-use Rattle.conn_reading.specs.Sessions.{Each, IsClean, Folded, mark_of, after_word, after_mark, between, after_entry, EntryLive}
+use Rattle.conn_reading.specs.Sessions.{Each, IsClean, Folded, mark_of, after_mark, MarkLive}
+use Rattle.conn_reading.specs.declared.blocks.Block.{Block}
+use Rattle.conn_reading.specs.declared.deed.Deed.{Deed}
 use Rattle.conn_reading.proofs.EachSeat.{held, count}
 use Rattle.conn_reading.proofs.ByNumber.{one_there}
 use Rattle.conn_reading.proofs.Tracks.{Track, IsTrack, no_track, folded, folded_at, between_none}
@@ -30,13 +32,13 @@ abbrev pub SeatOf : Tracks → Seat → Type 0
 SeatOf tracks seat = SeatIs (tracks seat.number) seat
 
 abbrev pub IsFree : Seat → Type 0
-IsFree seat = seat.status ≡ no_depth
+IsFree seat = is_broken seat.status ≡ false
 
 -- the connection of a number is as its history leaves it
 abbrev pub IsAtNumber : Tracks → ℕ → Seat → Type 0
 IsAtNumber tracks n seat = (seat.number ≡ n) × SeatOf tracks seat
 
--- each connection is as its history leaves it and has a number of its own, those in slots have no depth, those that are out
+-- each connection is as its history leaves it and has a number of its own, those in slots are kept, those that are out
 -- stand at the places of their numbers, of which each opened server has one, and no server that isn't opened is read
 pub record Keeps (d : Dialect) (logs left : ServerLogs) (tracks : Tracks) (slots : List Seat) (out : List (Option Seat)) (opened : ℕ) : Type 0 where
   pub tracked : (n : ℕ) → IsTrack d (logs n) (left n) (tracks n)
@@ -65,21 +67,22 @@ IsAt d logs tracks None (Some S) mark = ⊥
 IsAt d logs tracks (Some n) (Some S) None = ⊥
 IsAt d logs tracks (Some n) (Some S) (Some mark) = EndsWith d (logs n) S mark (tracks n)
 
--- what an entry says, between the histories before it and after it
-pub record EntrySays (d : Dialect) (logs : ServerLogs) (before after : Tracks) (opened : ℕ) (e : Entry) : Type 0 where
+-- what the entry of a deed says, between the histories before it and after it, where these blocks are open
+pub record EntrySays (d : Dialect) (logs : ServerLogs) (before after : Tracks) (opened : ℕ) (blocks : List Block) (deed : Option Deed) (e : Entry) : Type 0 where
   pub at : IsAt d logs after e.connection e.status e.mark
   pub clean : IsClean e.word e.reply e.status
-  pub folds : (n : ℕ) → after_entry n (logs n) e (folded (before n)) ≡ folded (after n)
-  pub live : (n : ℕ) → EntryLive n (logs n) e (folded (before n)) → AllKeepLive (before n).steps (alone []) → AllKeepLive (after n).steps (alone [])
+  pub folds : (n : ℕ) → after_mark (logs n) deed e.reply (folded blocks (before n)) (mark_of n e.connection e.mark) ≡ folded blocks (after n)
+  pub live : (n : ℕ) → MarkLive (logs n) deed e.reply (folded blocks (before n)) (mark_of n e.connection e.mark) → AllKeepLive (before n).steps (alone []) → AllKeepLive (after n).steps (alone [])
   pub opened_before : (n : ℕ) → is_some (mark_of n e.connection e.mark) ≡ true → n < opened
 
--- after a command
-pub record TakenKeeps (d : Dialect) (logs : ServerLogs) (before : Tracks) (opened : ℕ) (t : Taken) : Type 0 where
+-- after a command with this deed, which found some blocks open and leaves others
+pub record TakenKeeps (d : Dialect) (logs : ServerLogs) (before : Tracks) (opened : ℕ) (deed : Option Deed) (blocks left : List Block) (t : Taken) : Type 0 where
   pub tracks : Tracks
   pub progress : ProgressKeeps d logs t.left tracks t.progress
   pub dialect : t.progress.dialect ≡ d
   pub grows : opened ≤ t.progress.context.opened
-  pub entry : EntrySays d logs before tracks t.progress.context.opened t.entry
+  pub open_blocks : t.progress.context.blocks ≡ left
+  pub entry : EntrySays d logs before tracks t.progress.context.opened blocks deed t.entry
 
 -- an entry of one number alone
 pub only_then : (n c m : ℕ) (P : Option ℕ → Type 0) → (c ≡ n → P (Some m)) → P None → P (mark_of n (Some c) (Some m))
@@ -90,13 +93,13 @@ only_then n c m P some none = by_case (c == n) refl
     by_case false e = none
 
 -- an entry of a connection that nothing is read of
-still_folds : (n c m : ℕ) (log : List Item) (word : Word) (reply : Reply) (f : Folded) → ((k : Stack) → after_word word reply k ≡ k) → (c ≡ n → m ≡ f.mark) → after_mark log word reply f (mark_of n (Some c) (Some m)) ≡ f
-still_folds n c m log word reply f steady same = only_then n c m (λ (o : Option ℕ). after_mark log word reply f o ≡ f) (λ e. folded_at f m f.mark _ f.stack (same e) (steady (between log f m) ∙ between_none log f m (same e))) refl
+still_folds : (n c m : ℕ) (log : List Item) (reply : Reply) (f : Folded) → (c ≡ n → m ≡ f.mark) → after_mark log None reply f (mark_of n (Some c) (Some m)) ≡ f
+still_folds n c m log reply f same = only_then n c m (λ (o : Option ℕ). after_mark log None reply f o ≡ f) (λ e. folded_at f m f.mark _ f.stack (same e) (between_none log f m (same e))) refl
 
 -- of an entry without a mark nothing is said
-pub says_nothing : (d : Dialect) (logs : ServerLogs) (tracks : Tracks) (opened line : ℕ) (word : Word) (connection : Option ℕ) (reply : Reply) → IsClean word reply None
-    → EntrySays d logs tracks tracks opened (record { line = line; word = word; connection = connection; reply = reply; status = None; mark = None })
-says_nothing d logs tracks opened line word connection reply clean = record {
+pub says_nothing : (d : Dialect) (logs : ServerLogs) (tracks : Tracks) (opened : ℕ) (blocks : List Block) (deed : Option Deed) (line : ℕ) (word : Word) (connection : Option ℕ) (reply : Reply) → IsClean word reply None
+    → EntrySays d logs tracks tracks opened blocks deed (record { line = line; word = word; connection = connection; reply = reply; status = None; mark = None })
+says_nothing d logs tracks opened blocks deed line word connection reply clean = record {
   at = tt;
   clean = clean;
   folds = λ n. by_number n connection;
@@ -104,11 +107,11 @@ says_nothing d logs tracks opened line word connection reply clean = record {
   opened_before = λ n is. absurd (never n connection is);
 }
   where
-    unmarked : (n : ℕ) (b : Bool) → after_mark (logs n) word reply (folded (tracks n)) (if b then None else None) ≡ folded (tracks n)
+    unmarked : (n : ℕ) (b : Bool) → after_mark (logs n) deed reply (folded blocks (tracks n)) (if b then None else None) ≡ folded blocks (tracks n)
     unmarked n true = refl
     unmarked n false = refl
 
-    by_number : (n : ℕ) (c : Option ℕ) → after_mark (logs n) word reply (folded (tracks n)) (mark_of n c None) ≡ folded (tracks n)
+    by_number : (n : ℕ) (c : Option ℕ) → after_mark (logs n) deed reply (folded blocks (tracks n)) (mark_of n c None) ≡ folded blocks (tracks n)
     by_number n None = refl
     by_number n (Some c) = unmarked n (c == n)
 
@@ -120,14 +123,14 @@ says_nothing d logs tracks opened line word connection reply clean = record {
     never n None is = absurd (cc)
     never n (Some c) is = no_mark (c == n) is
 
--- an entry of a connection that is there, and that nothing is read of
-pub says_still : (d : Dialect) (logs left : ServerLogs) (tracks : Tracks) (opened line : ℕ) (word : Word) (reply : Reply) (seat : Seat) → ((n : ℕ) → IsTrack d (logs n) (left n) (tracks n)) → SeatOf tracks seat
-    → ((k : Stack) → after_word word reply k ≡ k) → IsClean word reply (Some seat.status) → seat.number < opened
-    → EntrySays d logs tracks tracks opened (record { line = line; word = word; connection = Some seat.number; reply = reply; status = Some seat.status; mark = Some seat.mark })
-says_still d logs left tracks opened line word reply seat tracked is steady clean low = record {
+-- an entry of a connection that is there, and that nothing is read of for want of a deed
+pub says_still : (d : Dialect) (logs left : ServerLogs) (tracks : Tracks) (opened : ℕ) (blocks : List Block) (line : ℕ) (word : Word) (reply : Reply) (seat : Seat) → ((n : ℕ) → IsTrack d (logs n) (left n) (tracks n)) → SeatOf tracks seat
+    → IsClean word reply (Some seat.status) → seat.number < opened
+    → EntrySays d logs tracks tracks opened blocks None (record { line = line; word = word; connection = Some seat.number; reply = reply; status = Some seat.status; mark = Some seat.mark })
+says_still d logs left tracks opened blocks line word reply seat tracked is clean low = record {
   at = record { left = left seat.number; tracked = tracked seat.number; status = is.status; mark_is = is.mark };
   clean = clean;
-  folds = λ n. still_folds n seat.number seat.mark (logs n) word reply (folded (tracks n)) steady (λ e. sym is.mark ∙ ap (λ (k : ℕ). length (step_items (tracks k).steps)) e);
+  folds = λ n. still_folds n seat.number seat.mark (logs n) reply (folded blocks (tracks n)) (λ e. sym is.mark ∙ ap (λ (k : ℕ). length (step_items (tracks k).steps)) e);
   live = λ n h l. l;
   opened_before = λ n. only_then n seat.number seat.mark (λ (o : Option ℕ). is_some o ≡ true → n < opened) (λ e h. subst (λ (k : ℕ). k < opened) e low) (λ h. absurd (cc));
 }

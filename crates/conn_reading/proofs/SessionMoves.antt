@@ -10,20 +10,23 @@ use Rattle.conn_manager.specs.Manages.{Done}
 use Rattle.conn_manager.specs.Statuses.{Status}
 use Rattle.conn_report.specs.declared.entry.Reply.{Reply}
 use Rattle.conn_report.specs.declared.entry.Reply.TheVariants as replies
-use Rattle.conn_script.specs.Requests.{deed_word}
+use Rattle.conn_script.specs.Requests.{verb_word}
 use Rattle.conn_script.specs.declared.command.Word.{Word}
-use Rattle.conn_script.specs.declared.request.Deed.{Deed}
-use Rattle.conn_reading.specs.Answered.{ServerLogs, Progress, Taken, with_left, seat_after, taken_on, not_out, reads_on}
+use Rattle.conn_script.specs.declared.request.Verb.{Verb}
+use Rattle.conn_reading.specs.Answered.{ServerLogs, Progress, Taken, taken, with_left, seat_after, taken_on, not_out, reads_on, skip_entry, reads_deed, with_blocks}
 use Rattle.conn_reading.specs.Asking.{Outcome, process_of}
+use Rattle.conn_reading.specs.Blocks.{block_on, blocks_after, deed_of}
 use Rattle.conn_reading.specs.Folds.{Stack, alone, fold_of, after_reply, kind_of, KeepsLive, AllKeepLive}
 use Rattle.conn_reading.specs.Histories.{Operation, Step, step_items}
 use Rattle.conn_reading.specs.Reading.{Read, read}
 use Rattle.conn_reading.specs.Seats.{Seat, entry_on, at_number}
-use Rattle.conn_reading.specs.Sessions.{SendsPlain, CommitsLive, after_word, mark_of, after_mark, between, MarkLive}
+use Rattle.conn_reading.specs.Sessions.{SendsPlain, IsClean, deed_kind, after_kind, KindLive, mark_of, after_mark, between, MarkLive}
+use Rattle.conn_reading.specs.declared.blocks.Block.{Block}
+use Rattle.conn_reading.specs.declared.deed.Deed.{Deed}
 use Rattle.conn_reading.proofs.ByNumber.{one_there, at_within, at-set, at-set_other}
-use Rattle.conn_reading.proofs.Deeds.{operation_of, deed_plain, deed_clean, DeedReads, deed_reads}
+use Rattle.conn_reading.proofs.Deeds.{operation_of, IsPlainDeed, deed_plain, verb_clean, DeedReads, deed_reads}
 use Rattle.conn_reading.proofs.EachSeat.{held, count, each_other}
-use Rattle.conn_reading.proofs.SessionKept.{Tracks, SeatIs, SeatOf, IsAtNumber, Keeps, ProgressKeeps, EndsWith, EntrySays, TakenKeeps, says_nothing}
+use Rattle.conn_reading.proofs.SessionKept.{Tracks, SeatIs, SeatOf, IsAtNumber, Keeps, ProgressKeeps, EndsWith, EntrySays, TakenKeeps, says_nothing, says_still}
 use Rattle.conn_reading.proofs.Tracks.{Track, IsTrack, moved, moved_is, moved_count, folded, folded_at, fold-last, live-last, between_is}
 
 -- ---- one number of many
@@ -51,22 +54,22 @@ mark_other n c m h = grind arith
 
 -- ---- one call more
 
--- its word and its reply do to the fold what the call does
-move_folds : (log left : List Item) (t : Track) (word : Word) (operation : Operation) (reply : Reply) (used : List Item) (r : Read Done) (mark : ℕ)
-    → ((k : Stack) → after_word word reply k ≡ after_reply (kind_of operation) r.value.reply k) → log ≡ step_items t.steps ++ (used ++ left) → mark ≡ length (step_items t.steps) + length used
-    → after_mark log word reply (folded t) (Some mark) ≡ folded (moved t operation used r)
-move_folds log left t word operation reply used r mark stack all is =
+-- the deed and its reply do to the fold what the call does
+move_folds : (log left : List Item) (blocks : List Block) (t : Track) (deed : Deed) (operation : Operation) (reply : Reply) (used : List Item) (r : Read Done) (mark : ℕ)
+    → ((k : Stack) → after_kind (deed_kind deed) reply k ≡ after_reply (kind_of operation) r.value.reply k) → log ≡ step_items t.steps ++ (used ++ left) → mark ≡ length (step_items t.steps) + length used
+    → after_mark log (Some deed) reply (folded blocks t) (Some mark) ≡ folded blocks (moved t operation used r)
+move_folds log left blocks t deed operation reply used r mark stack all is =
     let step : Step = record { operation = operation; items = used; answer = r.value } in
-    folded_at (folded t) mark (length (step_items (moved t operation used r).steps)) _ (fold_of (moved t operation used r).steps (alone []))
+    folded_at (folded blocks t) mark (length (step_items (moved t operation used r).steps)) _ (fold_of (moved t operation used r).steps (alone []))
     (is ∙ sym (moved_count t operation used r))
-    (stack (between log (folded t) mark) ∙ ap (λ (k : Stack). after_reply (kind_of operation) r.value.reply k) (between_is log used left t mark all is) ∙ sym (fold-last t.steps step (alone [])))
+    (stack (between log (folded blocks t) mark) ∙ ap (λ (k : Stack). after_reply (kind_of operation) r.value.reply k) (between_is log used left blocks t mark all is) ∙ sym (fold-last t.steps step (alone [])))
 
-move_live : (log left : List Item) (t : Track) (word : Word) (operation : Operation) (reply : Reply) (used : List Item) (r : Read Done) (mark : ℕ)
-    → ((k : Stack) → CommitsLive word reply k → KeepsLive (kind_of operation) r.value.reply k) → log ≡ step_items t.steps ++ (used ++ left) → mark ≡ length (step_items t.steps) + length used
-    → CommitsLive word reply (between log (folded t) mark) → AllKeepLive t.steps (alone []) → AllKeepLive (moved t operation used r).steps (alone [])
-move_live log left t word operation reply used r mark lives all is live h =
+move_live : (log left : List Item) (blocks : List Block) (t : Track) (deed : Deed) (operation : Operation) (reply : Reply) (used : List Item) (r : Read Done) (mark : ℕ)
+    → ((k : Stack) → KindLive (deed_kind deed) reply k → KeepsLive (kind_of operation) r.value.reply k) → log ≡ step_items t.steps ++ (used ++ left) → mark ≡ length (step_items t.steps) + length used
+    → KindLive (deed_kind deed) reply (between log (folded blocks t) mark) → AllKeepLive t.steps (alone []) → AllKeepLive (moved t operation used r).steps (alone [])
+move_live log left blocks t deed operation reply used r mark lives all is live h =
     let step : Step = record { operation = operation; items = used; answer = r.value } in
-    live-last t.steps step (alone []) h (subst (λ (k : Stack). KeepsLive (kind_of operation) r.value.reply k) (between_is log used left t mark all is) (lives (between log (folded t) mark) live))
+    live-last t.steps step (alone []) h (subst (λ (k : Stack). KeepsLive (kind_of operation) r.value.reply k) (between_is log used left blocks t mark all is) (lives (between log (folded blocks t) mark) live))
 
 module _ (d : Dialect) (logs left : ServerLogs) (tracks : Tracks) (n : ℕ) (rest : List Item) (after : Track) where
   -- the histories of the others stay
@@ -111,7 +114,7 @@ find d logs left tracks p n deed seat r dialect h there is =
           (subst (λ (x : Status). DeedReads p.dialect seat.state x deed (left seat.number) r) (sym here.1.status) reads));
     }
 
-module _ (d : Dialect) (logs left : ServerLogs) (tracks : Tracks) (p : Progress) (n : ℕ) (deed : Deed) (seat : Seat) (r : Read Outcome) (plain : SendsPlain deed) (h : ProgressKeeps d logs left tracks p)
+module _ (d : Dialect) (logs left : ServerLogs) (tracks : Tracks) (p : Progress) (n : ℕ) (deed : Deed) (seat : Seat) (r : Read Outcome) (plain : IsPlainDeed (Some deed)) (h : ProgressKeeps d logs left tracks p)
     (f : Found d left tracks n deed p.context.out seat r) where
   -- what the call read
   abbrev done_read : Read Done
@@ -142,7 +145,7 @@ module _ (d : Dialect) (logs left : ServerLogs) (tracks : Tracks) (p : Progress)
   count_read = omega (arith, f.is.mark, ap length f.reads.all, length-append f.reads.used r.left)
 
   next_is : IsTrack d (logs m) r.left next
-  next_is = moved_is d (operation_of deed) (logs m) (left m) t f.reads.used done_read f.reads.all f.reads.each (deed_plain deed plain) (h.tracked m)
+  next_is = moved_is d (operation_of deed) (logs m) (left m) t f.reads.used done_read f.reads.all f.reads.each plain (h.tracked m)
 
   after_is : SeatOf moved_tracks after
   after_is = subst (λ (x : Track). SeatIs x after) (sym (track_same tracks m next)) (record { status = f.reads.status; state = refl; mark = moved_count t (operation_of deed) f.reads.used done_read ∙ sym count_read })
@@ -184,36 +187,96 @@ module _ (d : Dialect) (logs left : ServerLogs) (tracks : Tracks) (p : Progress)
     none = h.none;
   }
 
-  on_says : (line : ℕ) → EntrySays d logs tracks moved_tracks p.context.opened (entry_on line (deed_word deed) r.value.reply after)
-  on_says line = record {
+  on_says : (line : ℕ) (word : Word) → ((reply : Reply) (status : Option Status) → IsClean word reply status) → EntrySays d logs tracks moved_tracks p.context.opened p.context.blocks (Some deed) (entry_on line word r.value.reply after)
+  on_says line word clean = record {
     at = subst (EndsWith d (logs m) r.value.status after.mark) (sym (track_same tracks m next)) (record { left = r.left; tracked = next_is; status = f.reads.status; mark_is = moved_count t (operation_of deed) f.reads.used done_read ∙ sym count_read });
-    clean = deed_clean deed r.value.reply (Some r.value.status);
-    folds = moves_each d logs left tracks m r.left next (λ k o x. after_mark (logs k) (deed_word deed) r.value.reply (folded (tracks k)) o ≡ folded x) after.mark (λ k. refl)
-        (move_folds (logs m) r.left t (deed_word deed) (operation_of deed) r.value.reply f.reads.used done_read after.mark f.reads.stack all_read count_read);
-    live = moves_each d logs left tracks m r.left next (λ k o x. MarkLive (logs k) (deed_word deed) r.value.reply (folded (tracks k)) o → AllKeepLive (tracks k).steps (alone []) → AllKeepLive x.steps (alone [])) after.mark (λ k l g. g)
-        (move_live (logs m) r.left t (deed_word deed) (operation_of deed) r.value.reply f.reads.used done_read after.mark f.reads.live all_read count_read);
+    clean = clean r.value.reply (Some r.value.status);
+    folds = moves_each d logs left tracks m r.left next (λ k o x. after_mark (logs k) (Some deed) r.value.reply (folded p.context.blocks (tracks k)) o ≡ folded p.context.blocks x) after.mark (λ k. refl)
+        (move_folds (logs m) r.left p.context.blocks t deed (operation_of deed) r.value.reply f.reads.used done_read after.mark f.reads.stack all_read count_read);
+    live = moves_each d logs left tracks m r.left next (λ k o x. MarkLive (logs k) (Some deed) r.value.reply (folded p.context.blocks (tracks k)) o → AllKeepLive (tracks k).steps (alone []) → AllKeepLive x.steps (alone [])) after.mark (λ k l g. g)
+        (move_live (logs m) r.left p.context.blocks t deed (operation_of deed) r.value.reply f.reads.used done_read after.mark f.reads.live all_read count_read);
     opened_before = λ k. moves_each d logs left tracks m r.left next (λ j o x. is_some o ≡ true → j < p.context.opened) after.mark (λ j e. absurd (cc)) (λ e. low) k;
   }
 
--- it is read
-pub on_keeps_all : (d : Dialect) (logs left : ServerLogs) (tracks : Tracks) (p : Progress) (line n : ℕ) (deed : Deed) (t : Taken) (o : Option Seat) → SendsPlain deed → p.dialect ≡ d → ProgressKeeps d logs left tracks p → at_number n p.context.out ≡ o
-    → reads_on p left line (deed_word deed) deed n o ≡ Some t → TakenKeeps d logs tracks p.context.opened t
-on_keeps_all d logs left tracks p line n deed t None plain dialect h there is =
-    let e : not_out p left line (deed_word deed) n ≡ t = cc in
-    subst (TakenKeeps d logs tracks p.context.opened) e
-    (record { tracks = tracks; progress = h; dialect = dialect; grows = omega arith; entry = says_nothing d logs tracks p.context.opened line (deed_word deed) (Some n) replies.NotOut (deed_clean deed replies.NotOut None) })
-on_keeps_all d logs left tracks p line n deed t (Some seat) plain dialect h there is =
-    by_read (read p.dialect p.armed seat.state (process_of p.dialect deed seat.status) (left seat.number)) refl is
+module _ (d : Dialect) (logs left : ServerLogs) (tracks : Tracks) (p : Progress) (line n : ℕ) (word : Word) (clean : (reply : Reply) (status : Option Status) → IsClean word reply status) (dialect : p.dialect ≡ d) (h : ProgressKeeps d logs left tracks p) where
+  abbrev Took : Option Deed → Taken → Type 0
+  Took deed t = TakenKeeps d logs tracks p.context.opened deed p.context.blocks p.context.blocks t
+
+  -- it is read
+  on_keeps_all : (deed : Deed) (t : Taken) (o : Option Seat) → IsPlainDeed (Some deed) → at_number n p.context.out ≡ o → reads_on p left line word deed n o ≡ Some t → Took (Some deed) t
+  on_keeps_all deed t None plain there is =
+      let e : not_out p left line word n ≡ t = cc in
+      subst (Took (Some deed)) e
+      (record { tracks = tracks; progress = h; dialect = dialect; grows = omega arith; open_blocks = refl; entry = says_nothing d logs tracks p.context.opened p.context.blocks (Some deed) line word (Some n) replies.NotOut (clean replies.NotOut None) })
+  on_keeps_all deed t (Some seat) plain there is =
+      by_read (read p.dialect p.armed seat.state (process_of p.dialect deed seat.status) (left seat.number)) refl is
+    where
+      by_read : (o : Option (Read Outcome)) → read p.dialect p.armed seat.state (process_of p.dialect deed seat.status) (left seat.number) ≡ o → option_map (taken_on p left line word n seat) o ≡ Some t → Took (Some deed) t
+      by_read None e i = absurd (cc)
+      by_read (Some r) e i =
+          let same : taken_on p left line word n seat r ≡ t = cc in
+          let f : Found d left tracks n deed p.context.out seat r = find d logs left tracks p n deed seat r dialect h there e in
+          subst (Took (Some deed)) same (record {
+            tracks = moved_tracks d logs left tracks p n deed seat r plain h f;
+            progress = on_keeps d logs left tracks p n deed seat r plain h f;
+            dialect = dialect;
+            grows = omega arith;
+            open_blocks = refl;
+            entry = on_says d logs left tracks p n deed seat r plain h f line word clean;
+          })
+
+  -- it is skipped
+  skip_keeps : (o : Option Seat) → at_number n p.context.out ≡ o → Took None (taken (skip_entry line word n o) p left)
+  skip_keeps None there = record {
+    tracks = tracks;
+    progress = h;
+    dialect = dialect;
+    grows = omega arith;
+    open_blocks = refl;
+    entry = says_nothing d logs tracks p.context.opened p.context.blocks None line word (Some n) replies.Skipped (clean replies.Skipped None);
+  }
+  skip_keeps (Some seat) there =
+      let here : IsAtNumber tracks n seat = h.in_out n seat there in
+      record {
+        tracks = tracks;
+        progress = h;
+        dialect = dialect;
+        grows = omega arith;
+        open_blocks = refl;
+        entry = says_still d logs left tracks p.context.opened p.context.blocks line word replies.Skipped seat h.tracked here.1 (clean replies.Skipped (Some seat.status)) (omega (arith, here.0, h.places, at_within n p.context.out seat there));
+      }
+
+  deed_keeps : (deed : Option Deed) (t : Taken) (o : Option Seat) → IsPlainDeed deed → at_number n p.context.out ≡ o → reads_deed p left line word deed n o ≡ Some t → Took deed t
+  deed_keeps None t o plain there is =
+      let e : taken (skip_entry line word n o) p left ≡ t = cc in
+      subst (Took None) e (skip_keeps o there)
+  deed_keeps (Some deed) t o plain there is = on_keeps_all deed t o plain there is
+
+-- a command on a connection, whose reply tells the blocks
+pub verb_keeps : (d : Dialect) (logs left : ServerLogs) (tracks : Tracks) (p : Progress) (line n : ℕ) (verb : Verb) (t : Taken) → SendsPlain verb → p.dialect ≡ d → ProgressKeeps d logs left tracks p
+    → (let deed : Option Deed = deed_of (block_on n p.context.blocks) verb in option_map (with_blocks n verb) (reads_deed p left line (verb_word verb) deed n (at_number n p.context.out)) ≡ Some t
+    → TakenKeeps d logs tracks p.context.opened deed p.context.blocks (blocks_after n verb t.entry.reply p.context.blocks) t)
+verb_keeps d logs left tracks p line n verb t plain dialect h is =
+    by_read (reads_deed p left line (verb_word verb) deed n (at_number n p.context.out)) is
+    (λ u e. deed_keeps d logs left tracks p line n (verb_word verb) (verb_clean verb) dialect h deed u (at_number n p.context.out) (deed_plain (block_on n p.context.blocks) verb plain) refl e) refl
   where
-    by_read : (o : Option (Read Outcome)) → read p.dialect p.armed seat.state (process_of p.dialect deed seat.status) (left seat.number) ≡ o → option_map (taken_on p left line (deed_word deed) n seat) o ≡ Some t → TakenKeeps d logs tracks p.context.opened t
-    by_read None e i = absurd (cc)
-    by_read (Some r) e i =
-        let same : taken_on p left line (deed_word deed) n seat r ≡ t = cc in
-        let f : Found d left tracks n deed p.context.out seat r = find d logs left tracks p n deed seat r dialect h there e in
-        subst (TakenKeeps d logs tracks p.context.opened) same (record {
-          tracks = moved_tracks d logs left tracks p n deed seat r plain h f;
-          progress = on_keeps d logs left tracks p n deed seat r plain h f;
-          dialect = dialect;
-          grows = omega arith;
-          entry = on_says d logs left tracks p n deed seat r plain h f line;
+    deed : Option Deed
+    deed = deed_of (block_on n p.context.blocks) verb
+
+    After : Taken → Type 0
+    After x = TakenKeeps d logs tracks p.context.opened deed p.context.blocks (blocks_after n verb x.entry.reply p.context.blocks) x
+
+    by_read : (o : Option Taken) → option_map (with_blocks n verb) o ≡ Some t → ((u : Taken) → reads_deed p left line (verb_word verb) deed n (at_number n p.context.out) ≡ Some u → TakenKeeps d logs tracks p.context.opened deed p.context.blocks p.context.blocks u)
+        → reads_deed p left line (verb_word verb) deed n (at_number n p.context.out) ≡ o → After t
+    by_read None i f e = absurd (cc)
+    by_read (Some u) i f e =
+        let same : with_blocks n verb u ≡ t = cc in
+        let k = f u e in
+        subst After same (record {
+          tracks = k.tracks;
+          progress = k.progress;
+          dialect = k.dialect;
+          grows = k.grows;
+          open_blocks = ap (blocks_after n verb u.entry.reply) k.open_blocks;
+          entry = k.entry;
         })

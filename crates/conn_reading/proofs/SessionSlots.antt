@@ -1,12 +1,10 @@
 -- What `get` and `put` do to the connections of a session; no history moves.
 use Rattle.std.proofs.Common.{◌≡◌, ◌≢◌, ℕ, suc, ℤ, ◌+◌, ◌<◌, ◌≤◌, Bool, true, false, if◌then◌else◌, List, [], ◌∷◌, ◌++◌, append-nil, length, length-append, length-set, Option, Some, None, refl, sym, ap, subst, ◌∙◌, arith, inl, inr}
-use Rattle.std.specs.Prelude.{slice_set, is_none}
+use Rattle.std.specs.Prelude.{slice_set, not}
 use Rattle.std.proofs.lemmas.Bool.{cases_eq}
 use Rattle.std.proofs.lemmas.Bool.Decides.{leb_tells}
 use Rattle.conn_model.specs.declared.item.Dialect.{Dialect}
-use Rattle.conn_manager.specs.Statuses.{Status, valid, no_depth}
-use Rattle.conn_manager.specs.declared.status.InTransactionStatus.{InTransactionStatus}
-use Rattle.conn_manager.specs.declared.status.TransactionManagerStatus.TheVariants.{Valid, InError}
+use Rattle.conn_manager.specs.Statuses.{Status, is_broken}
 use Rattle.conn_result.specs.declared.error.ConnectionError.TheVariants.{BadConnection}
 use Rattle.conn_report.specs.declared.entry.Reply.TheVariants as replies
 use Rattle.conn_script.specs.declared.command.Word.TheVariants as words
@@ -31,13 +29,14 @@ new_is : (tracks : Tracks) (n : ℕ) → tracks n ≡ no_track → SeatOf tracks
 new_is tracks n e = subst (λ (t : Track). SeatIs t (new_seat n)) (sym e) (record { status = refl; state = refl; mark = refl })
 
 attempt_keeps : (d : Dialect) (logs left : ServerLogs) (tracks : Tracks) (p : Progress) (line : ℕ) (rest : List (Option Seat)) (o : Option ℤ) → p.dialect ≡ d → Keeps d logs left tracks (held rest) p.context.out p.context.opened
-    → TakenKeeps d logs tracks p.context.opened (taken_attempt p left line rest o)
+    → TakenKeeps d logs tracks p.context.opened None p.context.blocks p.context.blocks (taken_attempt p left line rest o)
 attempt_keeps d logs left tracks p line rest (Some code) dialect h = record {
   tracks = tracks;
   progress = subst (λ (l : List Seat). Keeps d logs left tracks l p.context.out p.context.opened) (sym (held-append rest (None ∷ []) ∙ append-nil (held rest))) h;
   dialect = dialect;
   grows = omega arith;
-  entry = says_nothing d logs tracks p.context.opened line words.Get None (replies.Pool (BadConnection code)) tt;
+  open_blocks = refl;
+  entry = says_nothing d logs tracks p.context.opened p.context.blocks None line words.Get None (replies.Pool (BadConnection code)) tt;
 }
 attempt_keeps d logs left tracks p line rest None dialect h =
     let n : ℕ = p.context.opened in
@@ -57,7 +56,8 @@ attempt_keeps d logs left tracks p line rest None dialect h =
       };
       dialect = dialect;
       grows = omega arith;
-      entry = says_still d logs left tracks (n + 1) line words.Get replies.Ok seat h.tracked here (λ k. refl) refl (omega arith);
+      open_blocks = refl;
+      entry = says_still d logs left tracks (n + 1) p.context.blocks line words.Get replies.Ok seat h.tracked here refl (omega arith);
     }
   where
     out : List (Option Seat)
@@ -85,13 +85,14 @@ attempt_keeps d logs left tracks p line rest None dialect h =
     ]
 
 get_keeps_at : (d : Dialect) (logs left : ServerLogs) (tracks : Tracks) (p : Progress) (line : ℕ) (slots : List (Option Seat)) → p.dialect ≡ d → Keeps d logs left tracks (held slots) p.context.out p.context.opened → p.context.slots ≡ slots
-    → TakenKeeps d logs tracks p.context.opened (taken_get p left line slots)
+    → TakenKeeps d logs tracks p.context.opened None p.context.blocks p.context.blocks (taken_get p left line slots)
 get_keeps_at d logs left tracks p line [] dialect h e = record {
   tracks = tracks;
   progress = subst (λ (l : List (Option Seat)). Keeps d logs left tracks (held l) p.context.out p.context.opened) (sym e) h;
   dialect = dialect;
   grows = omega arith;
-  entry = says_nothing d logs tracks p.context.opened line words.Get None replies.NoneFree tt;
+  open_blocks = refl;
+  entry = says_nothing d logs tracks p.context.opened p.context.blocks None line words.Get None replies.NoneFree tt;
 }
 get_keeps_at d logs left tracks p line (None ∷ rest) dialect h e = attempt_keeps d logs left tracks p line rest (refusal_at p) dialect h
 get_keeps_at d logs left tracks p line (Some seat ∷ rest) dialect h e =
@@ -109,7 +110,8 @@ get_keeps_at d logs left tracks p line (Some seat ∷ rest) dialect h e =
       };
       dialect = dialect;
       grows = omega arith;
-      entry = says_still d logs left tracks p.context.opened line words.Get replies.Ok seat h.tracked h.in_slots.0 (λ k. refl) h.free.0 low;
+      open_blocks = refl;
+      entry = says_still d logs left tracks p.context.opened p.context.blocks line words.Get replies.Ok seat h.tracked h.in_slots.0 h.free.0 low;
     }
   where
     out : List (Option Seat)
@@ -140,19 +142,18 @@ get_keeps_at d logs left tracks p line (Some seat ∷ rest) dialect h e =
       | inr apart ↦ omega (arith, h.once k, ap one_there (at-set_other k m out (Some seat) apart))
     ]
 
-pub get_keeps : (d : Dialect) (logs left : ServerLogs) (tracks : Tracks) (p : Progress) (line : ℕ) → p.dialect ≡ d → ProgressKeeps d logs left tracks p → TakenKeeps d logs tracks p.context.opened (taken_get p left line p.context.slots)
+pub get_keeps : (d : Dialect) (logs left : ServerLogs) (tracks : Tracks) (p : Progress) (line : ℕ) → p.dialect ≡ d → ProgressKeeps d logs left tracks p → TakenKeeps d logs tracks p.context.opened None p.context.blocks p.context.blocks (taken_get p left line p.context.slots)
 get_keeps d logs left tracks p line dialect h = get_keeps_at d logs left tracks p line p.context.slots dialect h refl
 
 -- ---- put
 
-none_in : (o : Option InTransactionStatus) → is_none o ≡ true → valid o ≡ no_depth
-none_in None e = refl
-none_in (Some t) e = absurd (cc)
+not_true : (b : Bool) → not b ≡ true → b ≡ false
+not_true true e = absurd (cc)
+not_true false e = refl
 
--- what the pool keeps has no depth
-kept_free : (S : Status) → is_kept S ≡ true → S ≡ no_depth
-kept_free (Valid v) e = none_in v.in_transaction e
-kept_free InError e = absurd (cc)
+-- what the pool keeps isn't broken
+kept_free : (S : Status) → is_kept S ≡ true → is_broken S ≡ false
+kept_free S e = not_true (is_broken S) e
 
 count_none : (k : ℕ) (seat : Seat) → seat.number ≢ k → count k (seat ∷ []) ≡ 0
 count_none k seat apart = count_other k seat [] apart
@@ -166,8 +167,8 @@ slot_count k seat true = omega arith
 slot_count k seat false = omega arith
 
 pub put_keeps : (d : Dialect) (logs left : ServerLogs) (tracks : Tracks) (p : Progress) (line n : ℕ) (o : Option Seat) → at_number n p.context.out ≡ o → p.dialect ≡ d → ProgressKeeps d logs left tracks p
-    → TakenKeeps d logs tracks p.context.opened (taken_put p left line n o)
-put_keeps d logs left tracks p line n None is dialect h = record { tracks = tracks; progress = h; dialect = dialect; grows = omega arith; entry = says_nothing d logs tracks p.context.opened line words.Put (Some n) replies.NotOut tt }
+    → TakenKeeps d logs tracks p.context.opened None p.context.blocks p.context.blocks (taken_put p left line n o)
+put_keeps d logs left tracks p line n None is dialect h = record { tracks = tracks; progress = h; dialect = dialect; grows = omega arith; open_blocks = refl; entry = says_nothing d logs tracks p.context.opened p.context.blocks None line words.Put (Some n) replies.NotOut tt }
 put_keeps d logs left tracks p line n (Some seat) is dialect h =
     record {
       tracks = tracks;
@@ -183,7 +184,8 @@ put_keeps d logs left tracks p line n (Some seat) is dialect h =
       };
       dialect = dialect;
       grows = omega arith;
-      entry = says_still d logs left tracks p.context.opened line words.Put (put_reply seat.status) seat h.tracked here.1 (λ k. refl) tt low;
+      open_blocks = refl;
+      entry = says_still d logs left tracks p.context.opened p.context.blocks line words.Put (put_reply seat.status) seat h.tracked here.1 tt low;
     }
   where
     out : List (Option Seat)

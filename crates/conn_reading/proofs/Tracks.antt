@@ -9,7 +9,8 @@ use Rattle.conn_manager.specs.Statuses.{Status, no_depth}
 use Rattle.conn_reading.specs.Folds.{Stack, alone, after_items, kind_of, after_step, fold_of, KeepsLive, AllKeepLive}
 use Rattle.conn_reading.specs.Histories.{Operation, IsOperation, operation_process, Step, Follow, step_items, IsHistory}
 use Rattle.conn_reading.specs.Reading.{Read, Reads}
-use Rattle.conn_reading.specs.Sessions.{Folded, unfolded, between}
+use Rattle.conn_reading.specs.Sessions.{Folded, between}
+use Rattle.conn_reading.specs.declared.blocks.Block.{Block}
 
 -- ---- a track
 
@@ -67,9 +68,9 @@ track_history d log left t S h same = record { state = t.state; follows = subst 
 
 -- ---- its fold
 
--- the fold of the calls, and how many items they read
-abbrev pub folded : Track → Folded
-folded t = record unfolded { mark = length (step_items t.steps); stack = fold_of t.steps (alone []) }
+-- the fold of the calls, and how many items they read, with these blocks open
+abbrev pub folded : List Block → Track → Folded
+folded blocks t = record { mark = length (step_items t.steps); stack = fold_of t.steps (alone []); blocks = blocks }
 
 pub fold-last : (steps : List Step) (e : Step) (k : Stack) → fold_of (steps ++ e ∷ []) k ≡ after_step e (fold_of steps k)
 fold-last [] e k = refl
@@ -83,8 +84,8 @@ pub folded_at : (f : Folded) (m n : ℕ) (k l : Stack) → m ≡ n → k ≡ l �
 folded_at f m n k l e g = ap (λ (x : ℕ). record f { mark = x; stack = k }) e ∙ ap (λ (x : Stack). record f { mark = n; stack = x }) g
 
 -- between what was read and one call more stand the items of that call
-pub between_is : (log used left : List Item) (t : Track) (mark : ℕ) → log ≡ step_items t.steps ++ (used ++ left) → mark ≡ length (step_items t.steps) + length used → between log (folded t) mark ≡ after_items used (fold_of t.steps (alone []))
-between_is log used left t mark all is =
+pub between_is : (log used left : List Item) (blocks : List Block) (t : Track) (mark : ℕ) → log ≡ step_items t.steps ++ (used ++ left) → mark ≡ length (step_items t.steps) + length used → between log (folded blocks t) mark ≡ after_items used (fold_of t.steps (alone []))
+between_is log used left blocks t mark all is =
     let n : ℕ = length (step_items t.steps) in
     let long : mark - n ≡ length used = omega (arith, is) in
     let rest : drop n log ≡ used ++ left = ap (drop n) all ∙ drop-append_seam (step_items t.steps) (used ++ left) in

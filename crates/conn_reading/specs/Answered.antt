@@ -11,17 +11,19 @@ use Rattle.conn_server.specs.Connected.{planned_at}
 use Rattle.conn_manager.specs.Statuses.{no_depth}
 use Rattle.conn_report.specs.declared.entry.Entry.{Entry}
 use Rattle.conn_report.specs.declared.entry.Reply.TheVariants as replies
-use Rattle.conn_script.specs.Requests.{request_of, deed_word}
+use Rattle.conn_script.specs.Requests.{request_of, verb_word}
 use Rattle.conn_script.specs.declared.command.Command.{Command}
 use Rattle.conn_script.specs.declared.command.Script.{Script}
 use Rattle.conn_script.specs.declared.command.Word.{Word}
 use Rattle.conn_script.specs.declared.command.Word.TheVariants as words
-use Rattle.conn_script.specs.declared.request.Deed.{Deed}
 use Rattle.conn_script.specs.declared.request.Request.{Request}
 use Rattle.conn_script.specs.declared.request.Request.TheVariants.{Get, Put, On}
+use Rattle.conn_script.specs.declared.request.Verb.{Verb}
 use Rattle.conn_reading.specs.Asking.{Outcome, process_of}
+use Rattle.conn_reading.specs.Blocks.{block_on, blocks_after, deed_of}
 use Rattle.conn_reading.specs.Reading.{Read, read}
 use Rattle.conn_reading.specs.Seats.{Seat, Context, at_first, entry_on, entry_without, at_number, put_reply, put_slot}
+use Rattle.conn_reading.specs.declared.deed.Deed.{Deed}
 
 -- for each server, by its number, the items that aren't read yet
 abbrev pub ServerLogs : Type 0
@@ -71,6 +73,24 @@ abbrev pub reads_on : Progress → ServerLogs → ℕ → Word → Deed → ℕ 
 reads_on p logs line word deed n None = Some (not_out p logs line word n)
 reads_on p logs line word deed n (Some seat) = option_map (taken_on p logs line word n seat) (read p.dialect p.armed seat.state (process_of p.dialect deed seat.status) (logs seat.number))
 
+-- a command that is skipped shows its connection, where it is out
+abbrev pub skip_entry : ℕ → Word → ℕ → Option Seat → Entry
+skip_entry line word n None = entry_without line word (Some n) replies.Skipped
+skip_entry line word n (Some seat) = entry_on line word replies.Skipped seat
+
+-- a command by its deed; without one it is skipped, whether its connection is out or not
+abbrev pub reads_deed : Progress → ServerLogs → ℕ → Word → Option Deed → ℕ → Option Seat → Option Taken
+reads_deed p logs line word None n place = Some (taken (skip_entry line word n place) p logs)
+reads_deed p logs line word (Some deed) n place = reads_on p logs line word deed n place
+
+-- by the open blocks
+abbrev pub reads_by_deed : ℕ → ℕ → Verb → Progress → ServerLogs → Option Taken
+reads_by_deed line n verb p logs = reads_deed p logs line (verb_word verb) (deed_of (block_on n p.context.blocks) verb) n (at_number n p.context.out)
+
+-- and then its reply tells the blocks
+abbrev pub with_blocks : ℕ → Verb → Taken → Taken
+with_blocks n verb t = record t { progress = record t.progress { context = record t.progress.context { blocks = blocks_after n verb t.entry.reply t.progress.context.blocks } } }
+
 -- ---- get and put, which read no item
 
 -- the code with which the next attempt is refused, where it is: no number is left, or the plan says so
@@ -109,7 +129,7 @@ taken_put p logs line n (Some seat) = taken (entry_on line words.Put (put_reply 
 abbrev pub reads : Progress → ServerLogs → ℕ → Request → Option Taken
 reads p logs line Get = Some (taken_get p logs line p.context.slots)
 reads p logs line (Put n) = Some (taken_put p logs line n (at_number n p.context.out))
-reads p logs line (On n deed) = reads_on p logs line (deed_word deed) deed n (at_number n p.context.out)
+reads p logs line (On n verb) = option_map (with_blocks n verb) (reads_by_deed line n verb p logs)
 
 -- the entries of some commands, where the reading stands after them, and the items that are left
 pub record Run : Type 0 where

@@ -14,7 +14,9 @@ use Rattle.conn_manager.specs.Manages.{Reply}
 use Rattle.conn_manager.specs.Statuses.{Status}
 use Rattle.conn_manager.specs.declared.status.InTransactionStatus.{InTransactionStatus}
 use Rattle.conn_manager.specs.declared.status.TransactionManagerStatus.TheVariants.{Valid, InError}
-use Rattle.conn_reading.specs.Histories.{Operation, Begin, BeginBy, Commit, Rollback, Asks, Step, step_items}
+use Rattle.conn_script.specs.declared.command.BlockKind.{BlockKind}
+use Rattle.conn_script.specs.declared.command.BlockKind.TheVariants.{Plain, Test}
+use Rattle.conn_reading.specs.Histories.{Operation, Begin, BeginBy, Commit, Rollback, TestBegin, Close, Asks, Step, step_items}
 use Rattle.conn_reading.specs.Verdicts.{is_refused_by, runs_class}
 
 -- ---- the stack
@@ -145,20 +147,27 @@ after_items (i ∷ is) k = after_items is (after_item i k)
 
 -- ---- what calls do
 
--- what a call is to the stack where it answers Ok
+-- what a call is to the stack
 pub data Kind : Type 0 where
   Begins : Kind
   Commits : Kind
   Rolls : Kind
+  Closes : BlockKind → Kind
   Sends : Kind
 
--- Ok pushes a level, keeps the top one or drops it
+-- Ok pushes a level, keeps the top one or drops it; a block that closes keeps its level where the answer is Ok and it is no
+-- test's, and else drops it
 abbrev pub after_reply : Kind → Reply → Stack → Stack
 after_reply Begins (Ok u) k = pushed k
 after_reply Commits (Ok u) k = merged k
 after_reply Rolls (Ok u) k = dropped k
-after_reply Sends (Ok u) k = k
-after_reply kind (Err e) k = k
+after_reply (Closes Plain) (Ok u) k = merged k
+after_reply (Closes Plain) (Err e) k = dropped k
+after_reply (Closes Test) r k = dropped k
+after_reply Sends r k = k
+after_reply Begins (Err e) k = k
+after_reply Commits (Err e) k = k
+after_reply Rolls (Err e) k = k
 
 -- the kind of a call
 abbrev pub kind_of : Operation → Kind
@@ -166,6 +175,8 @@ kind_of Begin = Begins
 kind_of (BeginBy text) = Begins
 kind_of Commit = Commits
 kind_of Rollback = Rolls
+kind_of TestBegin = Begins
+kind_of (Close kind answer) = Closes kind
 kind_of (Asks f) = Sends
 
 -- first its items, then its reply
@@ -207,6 +218,9 @@ IsDoomed (l ∷ ls) = l.doomed ≡ true
 abbrev pub KeepsLive : Kind → Reply → Stack → Type 0
 KeepsLive Commits (Ok u) k = IsDoomed k.levels → ⊥
 KeepsLive Commits (Err e) k = ⊤
+KeepsLive (Closes Plain) (Ok u) k = IsDoomed k.levels → ⊥
+KeepsLive (Closes Plain) (Err e) k = ⊤
+KeepsLive (Closes Test) r k = ⊤
 KeepsLive Begins r k = ⊤
 KeepsLive Rolls r k = ⊤
 KeepsLive Sends r k = ⊤

@@ -6,17 +6,22 @@ use Rattle.conn_model.specs.States.{State, Idle}
 use Rattle.conn_model.specs.declared.class.Class.TheVariants as of
 use Rattle.conn_model.specs.declared.item.Dialect.{Dialect}
 use Rattle.conn_model.specs.declared.item.Item.{Item}
-use Rattle.conn_manager.specs.Manages.{Done, begin_process, begin_sql_process, commit_process, rollback_process}
+use Rattle.conn_manager.specs.Manages.{Done, Reply, begin_process, begin_sql_process, begin_test_process, commit_process, rollback_process}
 use Rattle.conn_manager.specs.Statuses.{Status, no_depth}
+use Rattle.conn_script.specs.declared.command.BlockKind.{BlockKind}
+use Rattle.conn_reading.specs.Asking.{close_process}
 use Rattle.conn_reading.specs.Plainly.{Plainly}
 use Rattle.conn_reading.specs.Reading.{Reads}
 
--- a call on a connection: one of its transaction manager, or any that asks by a process of its own
+-- a call on a connection: one of its transaction manager, the end of a block with its answer, or any that asks by a process of
+-- its own
 pub data Operation : Type 0 where
   Begin : Operation
   BeginBy : List ℕ → Operation
   Commit : Operation
   Rollback : Operation
+  TestBegin : Operation
+  Close : BlockKind → Reply → Operation
   Asks : (Dialect → Status → Process Done) → Operation
 
 -- the status that a call leaves
@@ -29,6 +34,8 @@ IsOperation Begin = ⊤
 IsOperation (BeginBy text) = class text ≡ of.Begin
 IsOperation Commit = ⊤
 IsOperation Rollback = ⊤
+IsOperation TestBegin = ⊤
+IsOperation (Close kind answer) = ⊤
 IsOperation (Asks f) = (d : Dialect) (S : Status) → Plainly d left_status S (f d S)
 
 -- what the call sends and answers, from this status
@@ -37,6 +44,8 @@ operation_process d S Begin = begin_process d S
 operation_process d S (BeginBy text) = begin_sql_process d text S
 operation_process d S Commit = commit_process d S
 operation_process d S Rollback = rollback_process d S
+operation_process d S TestBegin = begin_test_process d S
+operation_process d S (Close kind answer) = close_process kind answer d S
 operation_process d S (Asks f) = f d S
 
 -- a call, its items, and what it answered with the status that it left

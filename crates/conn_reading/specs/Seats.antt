@@ -1,12 +1,12 @@
 -- The connections of a session, as its report shows them.
-use Rattle.std.specs.Prelude.{ℕ, zero, suc, Bool, false, List, [], ◌∷◌, Option, Some, None, is_none, if◌then◌else◌}
+use Rattle.std.specs.Prelude.{ℕ, zero, suc, Bool, not, List, [], ◌∷◌, Option, Some, None, if◌then◌else◌}
 use Rattle.conn_model.specs.States.{State}
-use Rattle.conn_manager.specs.Statuses.{Status}
-use Rattle.conn_manager.specs.declared.status.TransactionManagerStatus.TheVariants.{Valid, InError}
+use Rattle.conn_manager.specs.Statuses.{Status, is_broken}
 use Rattle.conn_report.specs.declared.entry.Entry.{Entry}
 use Rattle.conn_report.specs.declared.entry.Reply.{Reply}
 use Rattle.conn_report.specs.declared.entry.Reply.TheVariants as replies
 use Rattle.conn_script.specs.declared.command.Word.{Word}
+use Rattle.conn_reading.specs.declared.blocks.Block.{Block}
 
 -- a connection: its number, its tracked status, how many items its server got, and the state that these items give
 pub record Seat : Type 0 where
@@ -16,15 +16,16 @@ pub record Seat : Type 0 where
   pub state : State
 
 -- the slots of the pool, front first, each empty or with a kept connection; the connections that are handed out, each at the
--- place of its number; and how many servers were opened
+-- place of its number; how many servers were opened; and the open blocks, innermost first
 pub record Context : Type 0 where
   pub slots : List (Option Seat)
   pub out : List (Option Seat)
   pub opened : ℕ
+  pub blocks : List Block
 
 -- one empty slot
 abbrev pub at_first : Context
-at_first = record { slots = None ∷ []; out = []; opened = 0 }
+at_first = record { slots = None ∷ []; out = []; opened = 0; blocks = [] }
 
 -- an entry of these
 abbrev pub make_entry : ℕ → Word → Option ℕ → Reply → Option Status → Option ℕ → Entry
@@ -44,10 +45,9 @@ at_number n [] = None
 at_number zero (seat ∷ seats) = seat
 at_number (suc n) (seat ∷ seats) = at_number n seats
 
--- the pool keeps a connection whose status is valid and without a depth
+-- the pool keeps a connection whose status is valid, and without a depth or in a test's transaction
 abbrev pub is_kept : Status → Bool
-is_kept (Valid v) = is_none v.in_transaction
-is_kept InError = false
+is_kept status = not (is_broken status)
 
 -- the reply to a connection that is given back
 abbrev pub put_reply : Status → Reply

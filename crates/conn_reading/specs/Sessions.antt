@@ -1,11 +1,11 @@
 -- What the entries of a session say of its servers, by their finished logs.
-use Rattle.std.specs.Prelude.{◌≡◌, ℕ, ◌-◌, ◌==◌, Bool, true, false, ⊤, List, [], ◌∷◌, take, drop, Option, Some, None, is_some, if◌then◌else◌}
+use Rattle.std.specs.Prelude.{◌≡◌, ℕ, ◌-◌, ◌==◌, Bool, true, false, ⊤, List, [], ◌∷◌, take, drop, Option, Some, None, Ok, Err, is_some, if◌then◌else◌}
 use Rattle.std.specs.List.{list_any}
 use Rattle.conn_model.specs.Classes.{class}
 use Rattle.conn_model.specs.States.{Idle}
 use Rattle.conn_model.specs.declared.item.Dialect.{Dialect}
 use Rattle.conn_model.specs.declared.item.Item.{Item}
-use Rattle.conn_manager.specs.Statuses.{Status, no_depth}
+use Rattle.conn_manager.specs.Statuses.{Status, is_broken}
 use Rattle.conn_report.specs.declared.entry.Entry.{Entry}
 use Rattle.conn_report.specs.declared.entry.Reply.{Reply}
 use Rattle.conn_report.specs.declared.entry.Reply.TheVariants as replies
@@ -13,14 +13,18 @@ use Rattle.conn_script.specs.Requests.{request_of}
 use Rattle.conn_script.specs.declared.command.Command.{Command}
 use Rattle.conn_script.specs.declared.command.Word.{Word}
 use Rattle.conn_script.specs.declared.command.Word.TheVariants as words
-use Rattle.conn_script.specs.declared.request.Deed.{Deed}
-use Rattle.conn_script.specs.declared.request.Deed.TheVariants as deeds
 use Rattle.conn_script.specs.declared.request.Request.{Request}
 use Rattle.conn_script.specs.declared.request.Request.TheVariants.{Get, Put, On}
+use Rattle.conn_script.specs.declared.request.Verb.{Verb}
+use Rattle.conn_script.specs.declared.request.Verb.TheVariants as verbs
 use Rattle.conn_reading.specs.Answered.{ServerLogs}
-use Rattle.conn_reading.specs.Folds.{Stack, alone, pushed, merged, dropped, after_items, refuses_transaction, SetsInOpen, IsDoomed, NestedMeaning}
+use Rattle.conn_reading.specs.Blocks.{request_deed, request_blocks}
+use Rattle.conn_reading.specs.Folds.{Stack, alone, after_items, Kind, Begins, Commits, Rolls, Closes, Sends, after_reply, KeepsLive, refuses_transaction, SetsInOpen, NestedMeaning}
 use Rattle.conn_reading.specs.Histories.{Step, step_items, IsHistory}
 use Rattle.conn_reading.specs.Verdicts.{is_plain, Verdict, StandsOver}
+use Rattle.conn_reading.specs.declared.blocks.Block.{Block}
+use Rattle.conn_reading.specs.declared.deed.Deed.{Deed}
+use Rattle.conn_reading.specs.declared.deed.Deed.TheVariants as deeds
 
 -- it holds of each
 abbrev pub Each : {A : Type 0} → (A → Type 0) → List A → Type 0
@@ -30,17 +34,15 @@ Each P (x ∷ xs) = P x × Each P xs
 -- ---- the texts of a script
 
 -- a text that is sent asks nothing of a transaction
-abbrev pub SendsPlain : Deed → Type 0
-SendsPlain (deeds.Batch text) = is_plain (class text) ≡ true
-SendsPlain deeds.Begin = ⊤
-SendsPlain deeds.Commit = ⊤
-SendsPlain deeds.Rollback = ⊤
+abbrev pub SendsPlain : Verb → Type 0
+SendsPlain (verbs.Batch text) = is_plain (class text) ≡ true
+SendsPlain _ = ⊤
 
 -- so is that of a command, where it has one
 abbrev pub AsksPlain : Request → Type 0
 AsksPlain Get = ⊤
 AsksPlain (Put n) = ⊤
-AsksPlain (On n deed) = SendsPlain deed
+AsksPlain (On n verb) = SendsPlain verb
 
 -- and every text of the commands
 abbrev pub AllPlain : List Command → Type 0
@@ -79,9 +81,9 @@ EachStandsOver d logs entries = EachMarked (StandsOver d) logs entries
 
 -- ---- connections that are handed out
 
--- a connection that `get` hands out is valid and without a depth
+-- a connection that `get` hands out is valid, and without a depth or in a test's transaction
 abbrev pub IsClean : Word → Reply → Option Status → Type 0
-IsClean words.Get replies.Ok (Some S) = S ≡ no_depth
+IsClean words.Get replies.Ok (Some S) = is_broken S ≡ false
 IsClean words.Get replies.Ok None = ⊥
 IsClean _ _ status = ⊤
 
@@ -100,66 +102,85 @@ mark_of n (Some c) mark = if c == n then mark else None
 abbrev pub is_opened : ℕ → List Entry → Bool
 is_opened n entries = list_any (λ (e : Entry). is_some (mark_of n e.connection e.mark)) entries
 
--- where the fold stands: how many items were read, and the stack
+-- where the fold stands: how many items were read, the stack, and the open blocks
 pub record Folded : Type 0 where
   pub mark : ℕ
   pub stack : Stack
+  pub blocks : List Block
 
 -- nothing was read
 abbrev pub unfolded : Folded
-unfolded = record { mark = 0; stack = alone [] }
+unfolded = record { mark = 0; stack = alone []; blocks = [] }
 
--- Ok pushes a level, keeps the top one or drops it
-abbrev pub after_word : Word → Reply → Stack → Stack
-after_word words.Begin replies.Ok k = pushed k
-after_word words.Commit replies.Ok k = merged k
-after_word words.Rollback replies.Ok k = dropped k
-after_word _ _ k = k
+-- what a deed is to the stack
+abbrev pub deed_kind : Deed → Kind
+deed_kind (deeds.Batch text) = Sends
+deed_kind deeds.Begin = Begins
+deed_kind deeds.Commit = Commits
+deed_kind deeds.Rollback = Rolls
+deed_kind deeds.TestBegin = Begins
+deed_kind (deeds.Close kind answer) = Closes kind
+
+-- by the reply to it; where its connection wasn't out nothing was done
+abbrev pub after_kind : Kind → Reply → Stack → Stack
+after_kind kind replies.Ok k = after_reply kind (Ok tt) k
+after_kind kind (replies.Error e) k = after_reply kind (Err e) k
+after_kind kind _ k = k
+
+-- a command without a deed does nothing
+abbrev pub after_deed : Option Deed → Reply → Stack → Stack
+after_deed None reply k = k
+after_deed (Some deed) reply k = after_kind (deed_kind deed) reply k
 
 -- the stack after the items from one mark to another
 abbrev pub between : List Item → Folded → ℕ → Stack
 between log f mark = after_items (take (mark - f.mark) (drop f.mark log)) f.stack
 
 -- first the items up to the mark, then the reply
-abbrev pub after_mark : List Item → Word → Reply → Folded → Option ℕ → Folded
-after_mark log word reply f None = f
-after_mark log word reply f (Some mark) = record f { mark = mark; stack = after_word word reply (between log f mark) }
+abbrev pub after_mark : List Item → Option Deed → Reply → Folded → Option ℕ → Folded
+after_mark log deed reply f None = f
+after_mark log deed reply f (Some mark) = record f { mark = mark; stack = after_deed deed reply (between log f mark) }
 
--- after an entry of any connection
-abbrev pub after_entry : ℕ → List Item → Entry → Folded → Folded
-after_entry n log e f = after_mark log e.word e.reply f (mark_of n e.connection e.mark)
+-- after the entry of a command on any connection
+abbrev pub after_entry : ℕ → List Item → Request → Entry → Folded → Folded
+after_entry n log request e f = record (after_mark log (request_deed f.blocks request) e.reply f (mark_of n e.connection e.mark)) { blocks = request_blocks request e.reply f.blocks }
 
 -- Fold: where it stands after the entries of connection n, with this log; its result is the lowest list, since all above it
 -- is dropped where the connection is closed or the script ends
-abbrev pub fold_entries : ℕ → List Item → List Entry → Folded → Folded
-fold_entries n log [] f = f
-fold_entries n log (e ∷ es) f = fold_entries n log es (after_entry n log e f)
+abbrev pub fold_entries : ℕ → List Item → List Command → List Entry → Folded → Folded
+fold_entries n log (c ∷ cs) (e ∷ es) f = fold_entries n log cs es (after_entry n log (request_of c.act) e f)
+fold_entries n log _ _ f = f
 
--- a commit that answers Ok keeps no doomed level
-abbrev pub CommitsLive : Word → Reply → Stack → Type 0
-CommitsLive words.Commit replies.Ok k = IsDoomed k.levels → ⊥
-CommitsLive _ _ k = ⊤
+-- a doomed level isn't kept by a reply
+abbrev pub KindLive : Kind → Reply → Stack → Type 0
+KindLive kind replies.Ok k = KeepsLive kind (Ok tt) k
+KindLive kind _ k = ⊤
+
+-- nor by a command
+abbrev pub DeedLive : Option Deed → Reply → Stack → Type 0
+DeedLive None reply k = ⊤
+DeedLive (Some deed) reply k = KindLive (deed_kind deed) reply k
 
 -- that is so of an entry
-abbrev pub MarkLive : List Item → Word → Reply → Folded → Option ℕ → Type 0
-MarkLive log word reply f None = ⊤
-MarkLive log word reply f (Some mark) = CommitsLive word reply (between log f mark)
+abbrev pub MarkLive : List Item → Option Deed → Reply → Folded → Option ℕ → Type 0
+MarkLive log deed reply f None = ⊤
+MarkLive log deed reply f (Some mark) = DeedLive deed reply (between log f mark)
 
--- of an entry of any connection
-abbrev pub EntryLive : ℕ → List Item → Entry → Folded → Type 0
-EntryLive n log e f = MarkLive log e.word e.reply f (mark_of n e.connection e.mark)
+-- of the entry of a command on any connection
+abbrev pub EntryLive : ℕ → List Item → Request → Entry → Folded → Type 0
+EntryLive n log request e f = MarkLive log (request_deed f.blocks request) e.reply f (mark_of n e.connection e.mark)
 
 -- and of all entries, one after another
-abbrev pub EntriesLive : ℕ → List Item → List Entry → Folded → Type 0
-EntriesLive n log [] f = ⊤
-EntriesLive n log (e ∷ es) f = EntryLive n log e f × EntriesLive n log es (after_entry n log e f)
+abbrev pub EntriesLive : ℕ → List Item → List Command → List Entry → Folded → Type 0
+EntriesLive n log (c ∷ cs) (e ∷ es) f = EntryLive n log (request_of c.act) e f × EntriesLive n log cs es (after_entry n log (request_of c.act) e f)
+EntriesLive n log _ _ f = ⊤
 
 -- no text of a transaction is refused, no savepoint is set in an idle server, and no level in which the transaction was
 -- aborted is kept
-pub record EntryPremises (d : Dialect) (n : ℕ) (log : List Item) (entries : List Entry) : Type 0 where
+pub record EntryPremises (d : Dialect) (n : ℕ) (log : List Item) (commands : List Command) (entries : List Entry) : Type 0 where
   pub none_refused : list_any refuses_transaction log ≡ false
   pub none_in_idle : SetsInOpen d (Idle []) log
-  pub live : EntriesLive n log entries unfolded
+  pub live : EntriesLive n log commands entries unfolded
 
 -- ---- the fold after each entry
 
@@ -170,8 +191,8 @@ MarkNested d log (Some S) None k = ⊤
 MarkNested d log (Some S) (Some mark) k = NestedMeaning d S (take mark log) k
 
 -- after each entry of connection n its server holds the stack of the fold up to it
-abbrev pub EachNested : Dialect → ℕ → List Item → List Entry → Folded → Type 0
-EachNested d n log [] f = ⊤
-EachNested d n log (e ∷ es) f =
-    let after = after_entry n log e f in
-    MarkNested d log e.status (mark_of n e.connection e.mark) after.stack × EachNested d n log es after
+abbrev pub EachNested : Dialect → ℕ → List Item → List Command → List Entry → Folded → Type 0
+EachNested d n log (c ∷ cs) (e ∷ es) f =
+    let after = after_entry n log (request_of c.act) e f in
+    MarkNested d log e.status (mark_of n e.connection e.mark) after.stack × EachNested d n log cs es after
+EachNested d n log _ _ f = ⊤

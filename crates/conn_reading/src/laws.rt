@@ -65,7 +65,7 @@ pub fn depths_stand_over_their_servers()
         → EachStandsOver script.dialect logs entries }
 {}
 
-/// Each connection that `get` hands out is valid and without a depth.
+/// Each connection that `get` hands out is valid, and without a depth or in a test's transaction.
 pub fn connections_are_handed_out_clean()
     ensures { (bytes : List ℕ) (script : Script) (logs : ServerLogs) (entries : List Entry)
         → script_of bytes ≡ Ok script → answered script logs ≡ Some entries → EachClean entries }
@@ -77,8 +77,8 @@ pub fn connections_are_handed_out_clean()
 pub fn servers_hold_the_stacks_of_entries()
     ensures { (bytes : List ℕ) (script : Script) (logs : ServerLogs) (entries : List Entry)
         → script_of bytes ≡ Ok script → answered script logs ≡ Some entries → (n : ℕ)
-        → EntryPremises script.dialect n (logs n) entries
-        → EachNested script.dialect n (logs n) entries unfolded }
+        → EntryPremises script.dialect n (logs n) script.commands entries
+        → EachNested script.dialect n (logs n) script.commands entries unfolded }
 {}
 
 /// The writes that a server keeps in the end are the fold of its connection's entries, where no text of a transaction was
@@ -86,8 +86,10 @@ pub fn servers_hold_the_stacks_of_entries()
 pub fn kept_writes_are_the_fold_of_entries()
     ensures { (bytes : List ℕ) (script : Script) (logs : ServerLogs) (entries : List Entry)
         → script_of bytes ≡ Ok script → answered script logs ≡ Some entries → (n : ℕ)
-        → is_opened n entries ≡ true → EntryPremises script.dialect n (logs n) entries
-        → option_map kept (state_of script.dialect (logs n)) ≡ Some (fold_entries n (logs n) entries unfolded).stack.lowest }
+        → is_opened n entries ≡ true
+        → EntryPremises script.dialect n (logs n) script.commands entries
+        → option_map kept (state_of script.dialect (logs n))
+        ≡ Some (fold_entries n (logs n) script.commands entries unfolded).stack.lowest }
 {}
 
 /// On SQLite the first premise of the fold gives the other two, for the log of each server that was opened.
@@ -96,5 +98,5 @@ pub fn sqlite_wants_one_premise()
         → script_of bytes ≡ Ok script → answered script logs ≡ Some entries
         → script.dialect ≡ Sqlite → (n : ℕ) → is_opened n entries ≡ true
         → list_any refuses_transaction (logs n) ≡ false
-        → EntryPremises script.dialect n (logs n) entries }
+        → EntryPremises script.dialect n (logs n) script.commands entries }
 {}

@@ -1,8 +1,13 @@
-//! How finished logs are read: what they answer to the commands of a session, and what they say of each tracked status.
+//! What the commands of a session do on its connections, what finished logs answer to them, and what these say of each tracked
+//! status.
 #![tactic(auto)]
 
+mod blocks;
+mod deed;
 mod laws;
 
+pub use blocks::{Block, BlockState, Blocks};
+pub use deed::Deed;
 pub use laws::{
     connections_are_handed_out_clean, depth_stands_over_the_server,
     depths_stand_over_their_servers, entries_are_borne_out, entries_are_recorded,

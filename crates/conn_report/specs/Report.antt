@@ -130,6 +130,7 @@ reply_text replies.Kept = codes "kept"
 reply_text replies.Closed = codes "closed"
 reply_text replies.NotOut = codes "notout"
 reply_text replies.NoneFree = codes "nonefree"
+reply_text replies.Skipped = codes "skipped"
 reply_text (replies.Error error) = codes "error " ++ error_text error
 reply_text (replies.Pool error) = codes "poolerror ConnectionError " ++ connection_error_text error
 

@@ -17,6 +17,8 @@ pub enum Reply {
     NotOut,
     /// No slot of the pool is free.
     NoneFree,
+    /// Nothing was done, since its block wasn't opened, or a command of it was refused.
+    Skipped,
     Error(Error),
     /// The pool opened no connection.
     Pool(ConnectionError),

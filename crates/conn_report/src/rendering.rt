@@ -23,6 +23,7 @@ impl fmt::Display for Reply {
             Reply::Closed => write!(f, "closed"),
             Reply::NotOut => write!(f, "notout"),
             Reply::NoneFree => write!(f, "nonefree"),
+            Reply::Skipped => write!(f, "skipped"),
             Reply::Error(error) => write!(f, "error {}", ErrorText(error)),
             Reply::Pool(error) => {
                 write!(
@@ -122,8 +123,8 @@ fn put_status_or_dash(
 
 /// The same of a command's word. An arm for each, so that its length is known when this is built.
 fn put_word(place: &mut [u8], end: usize, word: Word) -> usize
-    requires { (8 ≤ end) × (end ≤ length place.old) }
-    ensures room { (end ≤ result + 8) × (result ≤ end) }
+    requires { (11 ≤ end) × (end ≤ length place.old) }
+    ensures room { (end ≤ result + 11) × (result ≤ end) }
     ensures written { drop result place.new ≡ word_text word ++ drop end place.old }
     ensures len { length place.new ≡ length place.old }
 {
@@ -134,6 +135,10 @@ fn put_word(place: &mut [u8], end: usize, word: Word) -> usize
         Word::Begin => put(place, end, Word::Begin.name().as_bytes()),
         Word::Commit => put(place, end, Word::Commit.name().as_bytes()),
         Word::Rollback => put(place, end, Word::Rollback.name().as_bytes()),
+        Word::TestBegin => put(place, end, Word::TestBegin.name().as_bytes()),
+        Word::Transaction => put(place, end, Word::Transaction.name().as_bytes()),
+        Word::End => put(place, end, Word::End.name().as_bytes()),
+        Word::Fail => put(place, end, Word::Fail.name().as_bytes()),
     }
 }
 
@@ -179,6 +184,7 @@ fn put_reply(place: &mut [u8], end: usize, reply: Reply) -> Option<usize>
         Reply::Closed => Some(put(place, end, b" | closed")),
         Reply::NotOut => Some(put(place, end, b" | notout")),
         Reply::NoneFree => Some(put(place, end, b" | nonefree")),
+        Reply::Skipped => Some(put(place, end, b" | skipped")),
         Reply::Error(_) | Reply::Pool(_) => None,
     }
 }

@@ -1,22 +1,26 @@
 -- What the lines so far say, and what one line more adds.
-use Rattle.std.specs.Prelude.{ℕ, ◌&&◌, not, Bool, false, nat_le, [], ◌∷◌, ◌++◌, length, Option, codes}
+use Rattle.std.specs.Prelude.{ℕ, ◌+◌, ◌&&◌, not, Bool, false, nat_le, nat_lt, [], ◌∷◌, ◌++◌, length, Option, codes}
 use Rattle.conn_model.specs.declared.item.Dialect.TheVariants as dialects
 use Rattle.conn_model.specs.declared.plan.PlanLine.{PlanLine}
 use Rattle.conn_script.specs.Keys.{is_named_in}
+use Rattle.conn_script.specs.Openings.{blocks_behind, inside_behind, may_stand}
 use Rattle.conn_script.specs.Options.{guard}
 use Rattle.conn_script.specs.Plans.{compare_items, is_setup, refused_key, refused_line}
+use Rattle.conn_script.specs.Requests.{request_of}
 use Rattle.conn_script.specs.declared.command.Act.{Act}
 use Rattle.conn_script.specs.declared.command.Customizer.TheVariants as customizers
 use Rattle.conn_script.specs.declared.command.Script.{Script}
 use Rattle.conn_script.specs.declared.plan.Refused.{Refused}
 
--- a script so far
+-- a script so far, how many blocks are open, and the connection that they name
 pub record Draft : Type 0 where
   pub script : Script
+  pub blocks : ℕ
+  pub inside : ℕ
 
--- the draft of a script
-abbrev pub drafted : Script → Draft
-drafted script = record { script = script }
+-- the draft of a script and its open blocks
+abbrev pub drafted : Script → ℕ → ℕ → Draft
+drafted script blocks inside = record { script = script; blocks = blocks; inside = inside }
 
 -- a session over SQLite with a pool of one connection, which is neither customized nor checked
 abbrev pub empty_script : Script
@@ -24,11 +28,19 @@ empty_script = record { dialect = dialects.Sqlite; max_size = 1; customizer = cu
 
 -- the draft of the first line alone
 abbrev pub empty_draft : Draft
-empty_draft = drafted empty_script
+empty_draft = drafted empty_script 0 0
 
 -- the draft with one command more, that of line n
 abbrev pub command_added : ℕ → Draft → Act → Draft
-command_added n d act = record d { script = record d.script { commands = d.script.commands ++ record { line = n; act = act } ∷ [] } }
+command_added n d act = record {
+  script = record d.script { commands = d.script.commands ++ record { line = n; act = act } ∷ [] };
+  blocks = blocks_behind d.blocks (request_of act);
+  inside = inside_behind d.inside (request_of act);
+}
+
+-- the draft with one command more, if it may come where these blocks are open
+abbrev pub with_command : ℕ → Draft → Act → Option Draft
+with_command n d act = guard (may_stand d.blocks d.inside (request_of act)) (command_added n d act)
 
 -- the draft with one line of the plan more
 abbrev pub plan_added : Draft → PlanLine → Draft
@@ -38,9 +50,13 @@ plan_added d line = record d { script = record d.script { plan = d.script.plan +
 abbrev pub with_refused : Draft → Refused → Option Draft
 with_refused d r = guard (is_setup d.script.commands && not (is_named_in compare_items refused_key d.script.plan (r.server, r.item))) (plan_added d (refused_line r))
 
--- the lines that are due can still come: a script has at most 1,048,576 commands
+-- behind this many commands this many blocks on this connection can be closed: a script has at most 1,048,576 commands, and lines name connections below 2 ^ 32
+abbrev pub can_end : ℕ → ℕ → ℕ → Bool
+can_end commands blocks inside = nat_le (commands + blocks) 1048576 && nat_lt inside 4294967296
+
+-- the lines that close the open blocks can still come
 abbrev pub can_close : Draft → Bool
-can_close d = nat_le (length d.script.commands) 1048576
+can_close d = can_end (length d.script.commands) d.blocks d.inside
 
 -- the draft, where it can be closed
 abbrev pub if_closable : Draft → Option Draft

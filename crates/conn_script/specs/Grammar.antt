@@ -7,11 +7,13 @@ pub use Rattle.conn_script.specs.Options.{◌>>=◌, guard}
 use Rattle.conn_script.specs.Words.{split_at, is_statement}
 use Rattle.conn_script.specs.Spelling.{word_named}
 use Rattle.conn_script.specs.Plans.{refused_of}
-use Rattle.conn_script.specs.Drafts.{Draft, empty_draft, command_added, with_refused, if_closable}
+use Rattle.conn_script.specs.Drafts.{Draft, empty_draft, with_command, with_refused, if_closable}
 use Rattle.conn_script.specs.declared.command.Word.{Word}
 use Rattle.conn_script.specs.declared.command.Word.TheVariants as words
 use Rattle.conn_script.specs.declared.command.Act.{Act}
 use Rattle.conn_script.specs.declared.command.Act.TheVariants as acts
+use Rattle.conn_script.specs.declared.command.BlockKind.{BlockKind}
+use Rattle.conn_script.specs.declared.command.BlockKind.TheVariants as kinds
 use Rattle.conn_script.specs.declared.command.Script.{Script}
 use Rattle.conn_script.specs.declared.command.SessionError.{SessionError}
 use Rattle.conn_script.specs.declared.command.SessionError.TheVariants.{BadScript, OutOfMemory}
@@ -21,6 +23,12 @@ abbrev pub connection_alone : Option (List ℕ) → Option ℕ
 connection_alone rest = do
   text ← rest
   number 4294967296 text
+
+-- the block that is named so
+abbrev pub kind_named : List ℕ → Option BlockKind
+kind_named bs =
+    if bytes_eq bs (codes "plain") then Some kinds.Plain else
+    if bytes_eq bs (codes "test") then Some kinds.Test else None
 
 -- what a command asks for, by its word and what follows it behind a space
 abbrev pub act_from : Word → Option (List ℕ) → Option Act
@@ -34,6 +42,14 @@ act_from words.Batch rest = do
 act_from words.Begin rest = option_map acts.Begin (connection_alone rest)
 act_from words.Commit rest = option_map acts.Commit (connection_alone rest)
 act_from words.Rollback rest = option_map acts.Rollback (connection_alone rest)
+act_from words.TestBegin rest = option_map acts.TestBegin (connection_alone rest)
+act_from words.Transaction rest = do
+  text ← rest
+  c ← number 4294967296 (split_at 32 text).0
+  kind ← (split_at 32 text).1 >>= kind_named
+  Some (acts.Block c kind)
+act_from words.End rest = option_map acts.End (connection_alone rest)
+act_from words.Fail rest = option_map acts.Fail (connection_alone rest)
 
 -- what the command of this first word asks for
 abbrev pub act_of : List ℕ → Option (List ℕ) → Option Act
@@ -43,7 +59,7 @@ act_of first rest = do
 
 -- the draft with one line more, the line of number n, by its first word and what follows it behind a space
 abbrev pub with_words : ℕ → Draft → List ℕ × Option (List ℕ) → Option Draft
-with_words n d line = if bytes_eq line.0 (codes "refuse") then (refused_of line.1 >>= with_refused d) else option_map (command_added n d) (act_of line.0 line.1)
+with_words n d line = if bytes_eq line.0 (codes "refuse") then (refused_of line.1 >>= with_refused d) else (act_of line.0 line.1 >>= with_command n d)
 
 -- the draft with one more line of text, behind which the lines that are due can still come
 abbrev pub with_text : ℕ → Draft → List ℕ → Option Draft
@@ -64,9 +80,13 @@ abbrev pub lines_of : List ℕ → List (List ℕ)
 lines_of [] = [] ∷ []
 lines_of (b ∷ bs) = if b == 10 then [] ∷ lines_of bs else with_first b (lines_of bs)
 
+-- the script of the draft, where no block is open
+abbrev pub script_or_bad : ℕ → Draft → Result Script ℕ
+script_or_bad n d = if d.blocks == 0 then Ok d.script else Err n
+
 -- the script at the end, where the last line feed stood before line n
 abbrev pub judged_last : ℕ → Option Draft → List ℕ → Result Script ℕ
-judged_last n (Some d) [] = Ok d.script
+judged_last n (Some d) [] = script_or_bad n d
 judged_last n (Some d) (b ∷ bs) = Err n
 judged_last n None last = Err n
 

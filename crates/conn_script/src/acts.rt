@@ -1,12 +1,12 @@
 //! What commands ask for.
 ghost use Rattle.std.specs.Prelude.{◌≡◌};
 ghost use Rattle.std.specs.Option.{option_copied};
-ghost use Rattle.conn_script.specs.Grammar.{act_from, act_of, connection_alone};
+ghost use Rattle.conn_script.specs.Grammar.{act_from, act_of, connection_alone, kind_named};
 ghost use Rattle.conn_script.specs.Spelling.{word_named};
 
 use crate::statement::is_statement_text;
 use crate::words::cut_word;
-use crate::{Act, Word};
+use crate::{Act, BlockKind, Word};
 use conn_model::{LentText, number_u32};
 
 /// The word that is spelled so.
@@ -40,6 +40,28 @@ fn batch_in<'a>(rest: Option<&'a str>) -> Option<Act<'a>>
     Some(Act::Batch(connection, LentText::new(statement)))
 }
 
+/// The block that is named so.
+fn kind_of(text: &str) -> Option<BlockKind>
+    ensures { result ≡ kind_named text.now }
+{
+    if text == "plain" {
+        return Some(BlockKind::Plain);
+    }
+    if text == "test" {
+        return Some(BlockKind::Test);
+    }
+    None
+}
+
+fn block_in<'a>(rest: Option<&'a str>) -> Option<Act<'a>>
+    ensures { result ≡ act_from Word.Transaction (option_copied rest.entry) }
+{
+    let (connection, kind) = cut_word(rest?);
+    let connection = number_u32(connection)?;
+    let kind = kind_of(kind?)?;
+    Some(Act::Block(connection, kind))
+}
+
 /// What a command with this word asks for.
 fn act_by<'a>(word: Word, rest: Option<&'a str>) -> Option<Act<'a>>
     ensures { result ≡ act_from word (option_copied rest.entry) }
@@ -51,6 +73,10 @@ fn act_by<'a>(word: Word, rest: Option<&'a str>) -> Option<Act<'a>>
         Word::Begin => connection_in(rest).map(|c| Act::Begin(c)),
         Word::Commit => connection_in(rest).map(|c| Act::Commit(c)),
         Word::Rollback => connection_in(rest).map(|c| Act::Rollback(c)),
+        Word::TestBegin => connection_in(rest).map(|c| Act::TestBegin(c)),
+        Word::Transaction => block_in(rest),
+        Word::End => connection_in(rest).map(|c| Act::End(c)),
+        Word::Fail => connection_in(rest).map(|c| Act::Fail(c)),
     }
 }
 

@@ -13,19 +13,27 @@ pub enum Word {
     Begin,
     Commit,
     Rollback,
+    TestBegin,
+    Transaction,
+    End,
+    Fail,
 }
 
 impl Word {
     ghost use Rattle.conn_script.specs.Spelling.{word_text};
 
     /// All of them.
-    pub const ALL: [Word; 6] = [
+    pub const ALL: [Word; 10] = [
         Word::Get,
         Word::Put,
         Word::Batch,
         Word::Begin,
         Word::Commit,
         Word::Rollback,
+        Word::TestBegin,
+        Word::Transaction,
+        Word::End,
+        Word::Fail,
     ];
 
     /// How it is spelled.
@@ -39,8 +47,19 @@ impl Word {
             Word::Begin => "begin",
             Word::Commit => "commit",
             Word::Rollback => "rollback",
+            Word::TestBegin => "testbegin",
+            Word::Transaction => "transaction",
+            Word::End => "end",
+            Word::Fail => "fail",
         }
     }
+}
+
+/// How a block ends: `Plain` keeps what it did where all went well, and `Test` never does.
+#[derive(Clone, Copy, Debug, PartialEq, Eq)]
+pub enum BlockKind {
+    Plain,
+    Test,
 }
 
 /// What a command asks for. The first number is the connection; a text stands in the bytes of the script.
@@ -52,6 +71,10 @@ pub enum Act<'a> {
     Begin(u32),
     Commit(u32),
     Rollback(u32),
+    TestBegin(u32),
+    Block(u32, BlockKind),
+    End(u32),
+    Fail(u32),
 }
 
 /// A command, and the number of its line, from 1.

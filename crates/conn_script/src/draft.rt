@@ -1,8 +1,9 @@
 //! What the lines so far say.
-ghost use Rattle.std.specs.Prelude.{◌≡◌, IfOk, OnErr};
+ghost use Rattle.std.specs.Prelude.{◌≡◌, ◌==◌, IfOk, OnErr};
 ghost use Rattle.conn_script.specs.Options.{guard};
-ghost use Rattle.conn_script.specs.Drafts.{can_close, command_added, empty_draft, empty_script, with_refused};
+ghost use Rattle.conn_script.specs.Drafts.{can_close, empty_draft, empty_script, with_command, with_refused};
 
+use crate::openings::{bounds_block, can_end, may_stand, open_behind};
 use crate::plan::{Refused, plan_line};
 use crate::{Act, Command, Customizer, Script};
 use conn_model::{Dialect, Text};
@@ -11,14 +12,14 @@ use std::alloc::{AllocError, Global};
 use std::collections::BTreeSet;
 use std::marker::Model;
 
-/// The commands that a script has at most.
-const MAX_COMMANDS: usize = 1_048_576;
-
-/// A script so far, seen as it stands. Beside it are the items that its plan refuses, each a
-/// server and the item's number.
+/// A script so far, seen as it stands with its open blocks. Beside it are the items that its
+/// plan refuses, each a server and the item's number.
 #[derive(Drop)]
 pub struct Draft<'a> {
     script: Script<'a>,
+    /// How many blocks are open, and the connection that they name.
+    blocks: u32,
+    inside: u32,
     refused: BTreeSet<(u32, u64)>,
 }
 
@@ -29,7 +30,7 @@ impl<'a> Model for Draft<'a> {
 
     ghost Value = { Draft };
 
-    ghost view = { λ d. drafted d.script };
+    ghost view = { λ d. drafted d.script d.blocks d.inside };
 
     ghost invariant = { λ d. AreKeys compare_items refused_key d.refused.keys d.script.plan };
 }
@@ -56,23 +57,45 @@ impl<'a> Draft<'a> {
     {
         Ok(Draft {
             script: empty(alloc)?,
+            blocks: 0,
+            inside: 0,
             refused: BTreeSet::new(alloc),
         })
     }
 
-    /// Whether the lines that are due can still come.
+    /// Whether the lines that close the open blocks can still come.
     pub fn can_be_closed(&self) -> bool
         ensures { result ≡ can_close self.now }
     {
-        self.script.commands.len() <= MAX_COMMANDS
+        can_end(self.script.commands.len(), self.blocks, self.inside)
     }
 
-    /// Adds a command.
-    pub fn add_command(&mut self, line: u32, act: Act<'a>) -> Result<(), AllocError>
-        ensures added { IfOk result (λ _. self.new ≡ command_added line self.old act.entry) }
+    /// Whether no block is open.
+    pub fn is_closed(&self) -> bool
+        ensures { result ≡ (self.now.blocks == 0) }
+    {
+        self.blocks == 0
+    }
+
+    /// Adds a command, and answers whether it may come here.
+    pub fn add_command(&mut self, line: u32, act: Act<'a>) -> Result<bool, AllocError>
+        ensures added { IfOk result
+            (λ good. guard good self.new ≡ with_command line self.old act.entry) }
         ensures kept { OnErr result (self.new ≡ self.old) }
     {
-        self.script.commands.push(Command { line, act })
+        // Most commands stand in no block and open none.
+        if self.is_closed() && !bounds_block(&act) {
+            self.script.commands.push(Command { line, act })?;
+            return Ok(true);
+        }
+        if !may_stand(self.blocks, self.inside, &act) {
+            return Ok(false);
+        }
+        let (blocks, inside) = open_behind(self.blocks, self.inside, &act);
+        self.script.commands.push(Command { line, act })?;
+        self.blocks = blocks;
+        self.inside = inside;
+        Ok(true)
     }
 
     /// Adds an item that is refused, and answers whether it may come here: no other line refuses
@@ -102,7 +125,12 @@ impl<'a> Draft<'a> {
     pub fn into_script(self) -> Script<'a>
         ensures { result ≡ self.entry.script }
     {
-        let Draft { script, refused: _ } = self;
+        let Draft {
+            script,
+            blocks: _,
+            inside: _,
+            refused: _,
+        } = self;
         script
     }
 }

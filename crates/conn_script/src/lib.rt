@@ -6,16 +6,19 @@ mod command;
 mod draft;
 mod fields;
 mod law;
+mod openings;
 mod parse;
 mod plan;
 mod request;
 mod statement;
 mod words;
 
-pub use command::{Act, Command, Commands, Customizer, Plan, Script, SessionError, Word};
+pub use command::{
+    Act, BlockKind, Command, Commands, Customizer, Plan, Script, SessionError, Word,
+};
 pub use law::{bad_line_is_the_first, bad_lines_do_not, good_lines_go_on};
 pub use parse::parse_script;
-pub use request::{Deed, Request};
+pub use request::{Request, Verb};
 
 #[cfg(test)]
 mod tests;

@@ -1,17 +1,24 @@
 //! What a command asks of the pool or of a connection: the one view of an act.
 ghost use Rattle.std.specs.Prelude.{◌≡◌};
-ghost use Rattle.conn_script.specs.Requests.{request_of, deed_word};
+ghost use Rattle.conn_script.specs.Requests.{request_of, verb_word};
 
-use crate::{Act, Word};
+use crate::{Act, BlockKind, Word};
 use conn_model::LentText;
 
-/// What is asked of a connection that is handed out.
+/// What a command says of the connection that it names.
 #[derive(Debug, Drop)]
-pub enum Deed<'a> {
+pub enum Verb<'a> {
     Batch(LentText<'a>),
     Begin,
     Commit,
     Rollback,
+    TestBegin,
+    /// Opens a block.
+    Block(BlockKind),
+    /// Closes the innermost block, in which all went well.
+    End,
+    /// Closes the innermost block, which is to be rolled back.
+    Fail,
 }
 
 /// What is asked of the pool, or of the connection of a number.
@@ -19,7 +26,7 @@ pub enum Deed<'a> {
 pub enum Request<'a> {
     Get,
     Put(u32),
-    On(u32, Deed<'a>),
+    On(u32, Verb<'a>),
 }
 
 impl<'a> Act<'a> {
@@ -30,24 +37,32 @@ impl<'a> Act<'a> {
         match self {
             Act::Get => Request::Get,
             Act::Put(n) => Request::Put(*n),
-            Act::Batch(n, text) => Request::On(*n, Deed::Batch(LentText::new(text.as_str()))),
-            Act::Begin(n) => Request::On(*n, Deed::Begin),
-            Act::Commit(n) => Request::On(*n, Deed::Commit),
-            Act::Rollback(n) => Request::On(*n, Deed::Rollback),
+            Act::Batch(n, text) => Request::On(*n, Verb::Batch(LentText::new(text.as_str()))),
+            Act::Begin(n) => Request::On(*n, Verb::Begin),
+            Act::Commit(n) => Request::On(*n, Verb::Commit),
+            Act::Rollback(n) => Request::On(*n, Verb::Rollback),
+            Act::TestBegin(n) => Request::On(*n, Verb::TestBegin),
+            Act::Block(n, kind) => Request::On(*n, Verb::Block(*kind)),
+            Act::End(n) => Request::On(*n, Verb::End),
+            Act::Fail(n) => Request::On(*n, Verb::Fail),
         }
     }
 }
 
-impl<'a> Deed<'a> {
-    /// The first word of the command that asks it.
+impl<'a> Verb<'a> {
+    /// The first word of the command.
     pub fn word(&self) -> Word
-        ensures { result ≡ deed_word self.now }
+        ensures { result ≡ verb_word self.now }
     {
         match self {
-            Deed::Batch(_) => Word::Batch,
-            Deed::Begin => Word::Begin,
-            Deed::Commit => Word::Commit,
-            Deed::Rollback => Word::Rollback,
+            Verb::Batch(_) => Word::Batch,
+            Verb::Begin => Word::Begin,
+            Verb::Commit => Word::Commit,
+            Verb::Rollback => Word::Rollback,
+            Verb::TestBegin => Word::TestBegin,
+            Verb::Block(_) => Word::Transaction,
+            Verb::End => Word::End,
+            Verb::Fail => Word::Fail,
         }
     }
 }

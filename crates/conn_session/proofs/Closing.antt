@@ -1,5 +1,5 @@
 -- Servers are given back, one after the other.
-use Rattle.std.proofs.Common.{◌≡◌, ℕ, ◌+◌, ◌≤◌, List, [], ◌∷◌, ◌++◌, Option, Some, None, refl, ap, subst, ◌∙◌, arith}
+use Rattle.std.proofs.Common.{◌≡◌, ℕ, ◌+◌, List, [], ◌∷◌, ◌++◌, Option, Some, None, refl, ap, subst, ◌∙◌, arith}
 use Rattle.std.specs.Prelude.{sum_by}
 use Rattle.std.specs.List.{AllByRecursion}
 use Rattle.conn_model.specs.Seen.{Seen}
@@ -51,11 +51,6 @@ module _ (vs : List (Option View)) (old : Connected) (left rest : List (Option V
   gives-first v e = give_one v
       (λ f. omega (arith, ap (sum_by (part f)) e, Totals.sum-first f rest v))
       (λ P all. let both = subst (AllByRecursion (OfServer P)) e all in (both.1, both.0))
-
--- there is room for one of those that are left
-pub has_room : (vs : List (Option View)) (old : Connected) (left : List (Option View)) (k : Connected) (v : Option View) → GivesBackSome vs old left k → sum_by (part each_server) vs ≤ old.room → part each_server v ≤ sum_by (part each_server) left
-    → part each_server v ≤ k.room
-has_room vs old left k v g fits there = omega (arith, g.room, fits, there)
 
 -- those that are out were given back, and then those in slots
 pub closes : (w : World) (mid new : Connected) → GivesBackSome w.pool.out w.connector [] mid → GivesBackSome w.pool.slots mid [] new → Closes w new

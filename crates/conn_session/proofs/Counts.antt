@@ -1,14 +1,17 @@
 -- What counts of refusals say of entries.
-use Rattle.std.proofs.Common.{◌≡◌, ℕ, cond, true, false, List, [], ◌∷◌, ◌++◌, refl, subst, arith}
+use Rattle.std.proofs.Common.{◌≡◌, ℕ, ◌≤◌, cond, true, false, List, [], ◌∷◌, ◌++◌, refl, sym, subst, arith}
 use Rattle.std.specs.List.{AllByRecursion}
 use Rattle.conn_manager.specs.Statuses.{Status}
 use Rattle.conn_reading.specs.Seats.{is_kept, put_reply}
 use Rattle.conn_report.specs.declared.entry.Entry.{Entry}
 use Rattle.conn_report.specs.declared.entry.Reply.{Reply}
 use Rattle.conn_report.specs.declared.entry.Reply.TheVariants as replies
-use Rattle.conn_script.specs.declared.request.Deed.{Deed}
+use Rattle.conn_reading.specs.declared.blocks.Block.{Block}
+use Rattle.conn_reading.specs.declared.blocks.BlockState.{BlockState}
+use Rattle.conn_reading.specs.declared.blocks.BlockState.TheVariants.{Live, Refused, Dead}
+use Rattle.conn_reading.specs.declared.deed.Deed.{Deed}
 use Rattle.conn_session.specs.Responses.{IsAnswer, IsRefused, IsUnopened}
-use Rattle.conn_session.specs.Steps.{IsLater, IsCausedBy, IsCausedIn, KeepsOpening}
+use Rattle.conn_session.specs.Steps.{IsLater, IsCausedBy, IsCausedIn, IsCausedState, AreBlocksCaused, KeepsOpening}
 use Rattle.conn_session.specs.Worlds.{World, sum_all, refusals}
 
 pub later-refl : (w : World) → IsLater w w
@@ -36,8 +39,26 @@ answers_open deed replies.Kept a u = u
 answers_open deed replies.Closed a u = u
 answers_open deed replies.NotOut a u = u
 answers_open deed replies.NoneFree a u = u
+answers_open deed replies.Skipped a u = u
 answers_open deed (replies.Error e) a u = u
 answers_open deed (replies.Pool e) a u = a
+
+-- ---- the blocks
+
+state_later : (f g : ℕ → ℕ) (n : ℕ) (state : BlockState) → f n ≤ g n → IsCausedState f n state → IsCausedState g n state
+state_later f g n Live l h = tt
+state_later f g n Dead l h = tt
+state_later f g n (Refused e) l h = λ r. omega (arith, l, h r)
+
+blocks_later_in : (f g : ℕ → ℕ) (blocks : List Block) → ((n : ℕ) → f n ≤ g n) → AllByRecursion (λ (b : Block). IsCausedState f b.connection b.state) blocks → AllByRecursion (λ (b : Block). IsCausedState g b.connection b.state) blocks
+blocks_later_in f g [] l all = tt
+blocks_later_in f g (b ∷ bs) l all = (state_later f g b.connection b.state (l b.connection) all.0, blocks_later_in f g bs l all.1)
+
+-- blocks that a command leaves
+pub blocks_later : (old new : World) → new.pool.blocks ≡ old.pool.blocks → IsLater old new → AreBlocksCaused old → AreBlocksCaused new
+blocks_later old new same l caused =
+    subst (λ (blocks : List Block). AllByRecursion (λ (b : Block). IsCausedState (λ n. sum_all (refusals n) new) b.connection b.state) blocks) (sym same)
+    (blocks_later_in (λ n. sum_all (refusals n) old) (λ n. sum_all (refusals n) new) old.pool.blocks l.refusals_later caused)
 
 -- ---- along commands
 

@@ -1,5 +1,5 @@
 -- A deed: where its connection isn't out, and where it was done.
-use Rattle.std.proofs.Common.{◌≡◌, ℕ, ◌+◌, ◌<◌, Bool, true, false, List, [], ◌++◌, length, Option, Some, None, refl, sym, ap, subst, ◌∙◌, arith, Ok, Err, Result}
+use Rattle.std.proofs.Common.{◌≡◌, ℕ, ◌+◌, Bool, true, false, List, [], ◌++◌, length, Option, Some, None, refl, sym, ap, subst, ◌∙◌, arith, Ok, Err, Result, inl, inr}
 use Rattle.std.specs.Option.{option_map}
 use Rattle.std.specs.declared.alloc.AllocError.{AllocError}
 use Rattle.std.proofs.lemmas.List.{length-append}
@@ -12,50 +12,58 @@ use Rattle.conn_model.specs.declared.item.Item.{Item}
 use Rattle.conn_model.specs.declared.plan.Order.{Order}
 use Rattle.conn_manager.specs.Views.{View}
 use Rattle.conn_manager.specs.declared.instrumentation.NoInstrumentation.{NoInstrumentation}
-use Rattle.conn_reading.specs.Answered.{taken, reads, reads_on}
+use Rattle.conn_reading.specs.Answered.{ServerLogs, Progress, Taken, taken, reads_on}
 use Rattle.conn_reading.specs.Asking.{outcome, process_of}
 use Rattle.conn_reading.specs.Reading.{ReadsItems}
 use Rattle.conn_reading.specs.Readings.{ReadsEntry}
 use Rattle.conn_reading.specs.Seats.{Seat, Context, at_number, entry_on, entry_without}
+use Rattle.conn_reading.specs.declared.deed.Deed.{Deed}
 use Rattle.conn_reading.proofs.Appends.{HasRead, reads_acts}
 use Rattle.conn_reading.proofs.InPlace.{only, only_same, reads_in_place}
 use Rattle.conn_reading.proofs.Looks.{command_looks}
 use Rattle.conn_report.specs.declared.entry.Entry.{Entry}
 use Rattle.conn_report.specs.declared.entry.Reply.TheVariants as replies
-use Rattle.conn_script.specs.Requests.{deed_word}
-use Rattle.conn_script.specs.declared.request.Deed.{Deed}
-use Rattle.conn_script.specs.declared.request.Request.TheVariants.{On}
+use Rattle.conn_script.specs.declared.command.Word.{Word}
 use Rattle.conn_server.specs.Ordered.{planned}
 use Rattle.conn_session.specs.Known.{Has, OfServer, Grows, progress, with_more}
 use Rattle.conn_session.specs.Transfers.{puts_out}
 use Rattle.conn_session.specs.Plays.{PlaysOn}
-use Rattle.conn_session.specs.Responses.{ActsIn, Enters, Shows, IsRefused, IsUnopened, seat_of, state_told}
-use Rattle.conn_session.specs.Steps.{Steps, KeepsAll}
-use Rattle.conn_session.specs.Worlds.{World, Invariant, refusals, sum_all, context_of, view_of}
+use Rattle.conn_session.specs.Responses.{ActsIn, Enters, Shows, IsRefused, IsBlocks, IsUnopened, seat_of, state_told}
+use Rattle.conn_session.specs.Steps.{DoesOn, IsCausedOn, KeepsAll}
+use Rattle.conn_session.specs.Worlds.{World, Invariant, refusals, context_of, view_of}
 use Rattle.conn_session.specs.declared.connection.ServerConnection.{ServerConnection}
-use Rattle.conn_session.proofs.Counts.{later-refl, no_cause, opening-refl, answers_open}
+use Rattle.conn_session.proofs.Counts.{later-refl, opening-refl, answers_open}
 use Rattle.conn_session.proofs.Growing.{grows_nothing, known_grown}
 use Rattle.conn_session.proofs.Honest.{state_of_log, sent_of_log}
 use Rattle.conn_session.proofs.Moving.{asked_out, vacant_same}
 use Rattle.conn_session.proofs.Shown.{seats-at, context-puts_out}
 use Rattle.conn_session.proofs.Totals
 
-module _ (honest tells : Bool) (honest_tells : honest ≡ true → tells ≡ true) (line n : ℕ) (deed : Deed) (w : World) where
+module _ (honest tells : Bool) (honest_tells : honest ≡ true → tells ≡ true) (line n : ℕ) (word : Word) (deed : Deed) (w : World) where
+  -- how it is read
+  abbrev reads_in : Progress → ServerLogs → Option Taken
+  reads_in p logs = reads_on p logs line word deed n (at_number n p.context.out)
+
   -- its connection isn't out
-  pub on_absent : (entry : Entry) → at_number n w.pool.out ≡ None → entry ≡ entry_without line (deed_word deed) (Some n) replies.NotOut → Invariant w → Steps honest line (On n deed) w w (Ok entry)
+  pub on_absent : (entry : Entry) → at_number n w.pool.out ≡ None → entry ≡ entry_without line word (Some n) replies.NotOut → Invariant w → DoesOn honest line n word deed w w (Ok entry)
   on_absent entry none entry_is holds =
       let there : at_number n (context_of w).out ≡ None = seats-at w.pool.out n None none in
       record {
         keeps = record { holds = holds; counts = later-refl w; opening = opening-refl w };
-        plays = subst (PlaysOn line deed n (context_of w) entry (context_of w)) (sym there) (record { entry_is = entry_is; context_is = refl });
-        caused = no_cause w w entry replies.NotOut (ap (λ (e : Entry). e.reply) entry_is) (λ h. h) (λ h. h);
-        grows = λ _. grows_nothing (λ p logs. reads p logs line (On n deed)) w w entry (λ logs known. known)
-            (λ logs. ap (λ (o : Option Seat). reads_on (progress w) logs line (deed_word deed) deed n o) there ∙ ap (λ (e : Entry). Some (taken e (progress w) logs)) (sym entry_is));
+        blocks = refl;
+        plays_entry = subst (PlaysOn line word deed n (context_of w) entry (context_of w)) (sym there) (record { entry_is = entry_is; context_is = refl });
+        caused = record {
+          on = ap (λ (e : Entry). e.connection) entry_is;
+          refused = λ h. absurd (subst IsRefused (ap (λ (e : Entry). e.reply) entry_is) h);
+          opened = subst IsUnopened (ap (λ (e : Entry). e.reply) entry_is);
+        };
+        grows = λ _. grows_nothing reads_in w w entry (λ logs known. known)
+            (λ logs. ap (λ (o : Option Seat). reads_on (progress w) logs line word deed n o) there ∙ ap (λ (e : Entry). Some (taken e (progress w) logs)) (sym entry_is));
       }
 
   -- what its log grew by is read for it
-  module _ (v u : View) (entry : Entry) (there : at_number n w.pool.out ≡ Some v) (shown : Shows tells line deed v u entry) (holds : Invariant w) where
-    read_grown : honest ≡ true → IsHonest u.seen → Grows (λ p logs. reads p logs line (On n deed)) w (record w { pool = puts_out n (Some u) w.pool }) entry
+  module _ (v u : View) (entry : Entry) (there : at_number n w.pool.out ≡ Some v) (shown : Shows tells line word deed v u entry) (holds : Invariant w) where
+    read_grown : honest ≡ true → IsHonest u.seen → Grows reads_in w (record w { pool = puts_out n (Some u) w.pool }) entry
     read_grown h after_honest = λ logs known.
         let acts = shown.answered.acts in
         let reply = shown.reply in
@@ -73,7 +81,7 @@ module _ (honest tells : Bool) (honest_tells : honest ≡ true → tells ≡ tru
         (subst (λ (s : State). ReadsItems v.seen.dialect v.seen.armed (state_told v.seen) (process_of v.seen.dialect deed v.status) r.more (outcome reply u.status) s) (sym state) r.reads)) in
         let mark : u.seen.sent ≡ v.seen.sent + length r.more =
         omega (arith, sent_of_log u.seen (logs m ++ r.more) after_honest r.is_log, sent_of_log v.seen (logs m) has.honest has.log_is, length-append (logs m) r.more) in
-        let taken_so = reads_in_place (progress w) line (deed_word deed) deed n (seat_of v) (seat_of u) r.more reply (seats-at w.pool.out n (Some v) there) read_so (r.anew refl) acts.same.number mark in (
+        let taken_so = reads_in_place (progress w) line word deed n (seat_of v) (seat_of u) r.more reply (seats-at w.pool.out n (Some v) there) read_so (r.anew refl) acts.same.number mark in (
           only m r.more,
           known_grown logs r.more w n v u holds there (record {
             honest = after_honest;
@@ -82,25 +90,35 @@ module _ (honest tells : Bool) (honest_tells : honest ≡ true → tells ≡ tru
             log_is = r.is_log ∙ ap (λ (t : List Item). Some (logs m ++ t)) (sym (only_same m r.more)) ∙ ap (λ (k : ℕ). Some (with_more logs (only m r.more) k)) (sym acts.same.number);
             orders = λ item. ap (λ (o : ℕ → Option Order). o item) acts.same.orders ∙ has.orders item ∙ ap (λ (k : ℕ). planned w.connector.armed k item) (sym acts.same.number);
           }) known,
-          subst (λ (e : Entry). ReadsEntry (λ p logs. reads p logs line (On n deed)) (progress w) (only m r.more) e (progress (record w { pool = puts_out n (Some u) w.pool }))) (sym shown.entry_is)
-              (subst (λ (c : Context). ReadsEntry (λ p logs. reads p logs line (On n deed)) (progress w) (only m r.more) (entry_on line (deed_word deed) reply (seat_of u)) (record (progress w) { context = c })) (sym (context-puts_out w n (Some u))) taken_so),
+          subst (λ (e : Entry). ReadsEntry reads_in (progress w) (only m r.more) e (progress (record w { pool = puts_out n (Some u) w.pool }))) (sym shown.entry_is)
+              (subst (λ (c : Context). ReadsEntry reads_in (progress w) (only m r.more) (entry_on line word reply (seat_of u)) (record (progress w) { context = c })) (sym (context-puts_out w n (Some u))) taken_so),
         )
 
-    refused_there : IsRefused entry.reply → (m : ℕ) × (entry.connection ≡ Some m) × (0 < sum_all (refusals m) (record w { pool = puts_out n (Some u) w.pool }))
-    refused_there h =
-        let m = u.seen.number in
-        let rose = shown.answered.refused (subst IsRefused (ap (λ (e : Entry). e.reply) shown.entry_is) h) in
-        (m, ap (λ (e : Entry). e.connection) shown.entry_is, omega (arith, rose, Totals.refusals_here m u.seen refl, Totals.sum-set_at (refusals m) w.pool.out n v (Some u) there, Totals.sum-at (refusals m) w.pool.out n v there))
+    -- the number of the connection
+    numbered : u.seen.number ≡ n
+    numbered = omega (arith, shown.answered.acts.same.number, Totals.placed-at 0 w.pool.out n v there holds.placed)
+
+    caused_there : IsCausedOn n deed (record w { pool = puts_out n (Some u) w.pool }) entry
+    caused_there =
+        let reply_is : entry.reply ≡ shown.reply = ap (λ (e : Entry). e.reply) shown.entry_is in
+        record {
+          on = ap (λ (e : Entry). e.connection) shown.entry_is ∙ ap (λ (m : ℕ). Some m) numbered;
+          refused = λ h. elim (shown.answered.counted.refused (subst IsRefused reply_is h)) [
+            | inl rose ↦ inl (omega (arith, rose, Totals.refusals_here n u.seen numbered, Totals.sum-set_at (refusals n) w.pool.out n v (Some u) there, Totals.sum-at (refusals n) w.pool.out n v there))
+            | inr blocks ↦ inr (subst (IsBlocks deed) (sym reply_is) blocks)
+          ];
+          opened = λ h. answers_open deed shown.reply shown.answered.answer (subst IsUnopened reply_is h);
+        }
 
   -- it was done, or there was no memory for it
-  pub on_answered : (v u : View) (result : Result Entry AllocError) → at_number n w.pool.out ≡ Some v → Enters tells line deed v u result → (honest ≡ true → IsHonest u.seen) → Invariant w
-      → Steps honest line (On n deed) w (record w { pool = puts_out n (Some u) w.pool }) result
+  pub on_answered : (v u : View) (result : Result Entry AllocError) → at_number n w.pool.out ≡ Some v → Enters tells line word deed v u result → (honest ≡ true → IsHonest u.seen) → Invariant w
+      → DoesOn honest line n word deed w (record w { pool = puts_out n (Some u) w.pool }) result
   on_answered v u result there enters is_honest holds = by_result result enters
     where
       new : World
       new = record w { pool = puts_out n (Some u) w.pool }
 
-      keeps : (result : Result Entry AllocError) → Enters tells line deed v u result → KeepsAll w new
+      keeps : (result : Result Entry AllocError) → Enters tells line word deed v u result → KeepsAll w new
       keeps result enters = record {
         holds = asked_out w n v u there enters.same.number holds;
         counts = record {
@@ -110,11 +128,12 @@ module _ (honest tells : Bool) (honest_tells : honest ≡ true → tells ≡ tru
         opening = record { dialect = refl; target = refl; size = refl; plan = refl; aims = λ h. h };
       }
 
-      by_result : (result : Result Entry AllocError) → Enters tells line deed v u result → Steps honest line (On n deed) w new result
-      by_result (Err e) enters = record { keeps = keeps (Err e) enters; plays = tt; caused = tt; grows = λ _. tt }
+      by_result : (result : Result Entry AllocError) → Enters tells line word deed v u result → DoesOn honest line n word deed w new result
+      by_result (Err e) enters = record { keeps = keeps (Err e) enters; blocks = refl; plays_entry = tt; caused = tt; grows = λ _. tt }
       by_result (Ok entry) enters = record {
         keeps = keeps (Ok entry) enters;
-        plays = subst (PlaysOn line deed n (context_of w) entry (context_of new)) (sym (seats-at w.pool.out n (Some v) there)) (record {
+        blocks = refl;
+        plays_entry = subst (PlaysOn line word deed n (context_of w) entry (context_of new)) (sym (seats-at w.pool.out n (Some v) there)) (record {
           reply = enters.shown.reply;
           after = seat_of u;
           answer = enters.shown.answered.answer;
@@ -122,10 +141,7 @@ module _ (honest tells : Bool) (honest_tells : honest ≡ true → tells ≡ tru
           entry_is = enters.shown.entry_is;
           context_is = context-puts_out w n (Some u);
         });
-        caused = record {
-          refused = refused_there v u entry there enters.shown holds;
-          unopened = λ h. absurd (answers_open deed enters.shown.reply enters.shown.answered.answer (subst IsUnopened (ap (λ (e : Entry). e.reply) enters.shown.entry_is) h));
-        };
+        caused = caused_there v u entry there enters.shown holds;
         grows = λ h. read_grown v u entry there enters.shown holds h (is_honest h);
       }
 
@@ -136,15 +152,15 @@ pub honest_place : {S : Type 0} (seen : S → Seen) → ((s : S) → IsHonest (s
 honest_place seen honest None = tt
 honest_place seen honest (Some c) = honest c.server
 
-module _ (honest tells : Bool) (honest_tells : honest ≡ true → tells ≡ true) (line n : ℕ) (deed : Deed) (w : World) where
-  pub on_place : (o new : Option View) (result : Result Entry AllocError) → at_number n w.pool.out ≡ o → ActsIn tells line deed o new (Some result) → (honest ≡ true → OfServer IsHonest new) → Invariant w
-      → Steps honest line (On n deed) w (record w { pool = puts_out n new w.pool }) result
+module _ (honest tells : Bool) (honest_tells : honest ≡ true → tells ≡ true) (line n : ℕ) (word : Word) (deed : Deed) (w : World) where
+  pub on_place : (o new : Option View) (result : Result Entry AllocError) → at_number n w.pool.out ≡ o → ActsIn tells line word deed o new (Some result) → (honest ≡ true → OfServer IsHonest new) → Invariant w
+      → DoesOn honest line n word deed w (record w { pool = puts_out n new w.pool }) result
   on_place None new result there acts is_honest holds = absurd (cc (acts.1))
   on_place (Some v) None result there acts is_honest holds = absurd acts
-  on_place (Some v) (Some u) result there acts is_honest holds = on_answered honest tells honest_tells line n deed w v u result there acts is_honest holds
+  on_place (Some v) (Some u) result there acts is_honest holds = on_answered honest tells honest_tells line n word deed w v u result there acts is_honest holds
 
   -- nothing was there
-  pub on_left : (o new : Option View) → at_number n w.pool.out ≡ o → ActsIn tells line deed o new None → (at_number n w.pool.out ≡ None) × (puts_out n new w.pool ≡ w.pool)
+  pub on_left : (o new : Option View) → at_number n w.pool.out ≡ o → ActsIn tells line word deed o new None → (at_number n w.pool.out ≡ None) × (puts_out n new w.pool ≡ w.pool)
   on_left None new there acts = (there, ap (λ (x : Option View). puts_out n x w.pool) acts.0 ∙ vacant_same w.pool n there)
   on_left (Some v) None there acts = absurd acts
   on_left (Some v) (Some u) there acts = absurd acts

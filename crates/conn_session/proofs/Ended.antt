@@ -114,18 +114,6 @@ module _ (d : Dialect) (plan : List PlanLine) (logs : ServerLogs) (k : Connected
 abbrev pub at_start : Dialect → Target → Connected → World
 at_start d target k = record { pool = new_pool d target; connector = k }
 
-pub holds_start : (d : Dialect) (target : Target) (k : Connected) → k.opened ≡ 0 → k.returned ≡ [] → Invariant (at_start d target k)
-holds_start d target k opened returned = record {
-  accounts = record {
-    once = λ n l. absurd (omega (arith, opened, l));
-    none = λ n l. omega (arith, ap (λ (ss : List Seen). sum_by (of_number n) ss) returned);
-  };
-  places = sym opened;
-  placed = tt;
-  slots = refl;
-  room = omega arith;
-}
-
 known_start : (d : Dialect) (target : Target) (k : Connected) → k.returned ≡ [] → IsKnown (λ n. []) (at_start d target k)
 known_start d target k returned = record {
   servers = record { slots = (tt, tt); out = tt; returned = subst (AllByRecursion (Has d k.armed (λ n. []))) (sym returned) tt };
@@ -133,7 +121,7 @@ known_start d target k returned = record {
 }
 
 start_is : (script : Script) (opened attempts : ℕ) (plan : List PlanLine) → opened ≡ 0 → attempts ≡ 0 → plan ≡ script.plan
-    → let P : Type 0 = Progress in let x : P = record { context = record { slots = None ∷ []; out = []; opened = opened }; attempts = attempts; plan = plan; armed = []; dialect = script.dialect } in x ≡ started script
+    → let P : Type 0 = Progress in let x : P = record { context = record { slots = None ∷ []; out = []; opened = opened; blocks = [] }; attempts = attempts; plan = plan; armed = []; dialect = script.dialect } in x ≡ started script
 start_is script opened attempts plan e f g = cc (e, f, g)
 
 -- each server is back, once
@@ -173,20 +161,13 @@ module _ (honest : Bool) (script : Script) (target : Target) (old new : Connecte
 
   pub runs_script : RunsScript honest script old new entries
   runs_script = record {
-    played = (context_of w, subst (λ (n : ℕ). PlaysAll (record { slots = None ∷ []; out = []; opened = n }) script.commands entries (context_of w)) opened runs.plays);
-    caused = all_caused_by (at_start script.dialect target old) w (λ n. sum_by (refusals n) new.returned) new.failures entries closed.counts (λ n. closed.totals (refusals n)) runs.caused;
+    played = (context_of w, subst (λ (n : ℕ). PlaysAll (record { slots = None ∷ []; out = []; opened = n; blocks = [] }) script.commands entries (context_of w)) opened runs.plays_entries);
+    caused = all_caused_by (at_start script.dialect target old) w (λ n. sum_by (refusals n) new.returned) new.failures entries closed.counts (λ n. closed.totals (refusals n)) (runs.caused tt).0;
     answered = run_answered;
     kept = run_kept;
   }
 
 -- ---- whatever the run answered
-
--- without a server none is missing
-pub none_back : (k : Connected) → k.opened ≡ 0 → k.returned ≡ [] → AllBack k
-none_back k opened returned = record {
-  once = λ n l. absurd (omega (arith, opened, l));
-  none = λ n l. omega (arith, ap (λ (ss : List Seen). sum_by (of_number n) ss) returned);
-}
 
 module _ (script : Script) (target : Target) (pool : Pool) (old new : Connected) (w : World) (start : pool ≡ new_pool script.dialect target) (keeps : KeepsAll (record { pool = pool; connector = old }) w) (closed : Closes w new) where
   keeps_start : KeepsAll (at_start script.dialect target old) w

@@ -53,9 +53,6 @@ module _ (P : Seen → Type 0) where
     returned = Totals.all-last P w.connector.returned v.seen h.returned (Totals.all-at P w.pool.out n v e h.out);
   }
 
-  pub everywhere-asked : (w : World) (n : ℕ) (v : View) → P v.seen → Everywhere P w → Everywhere P (record w { pool = puts_out n (Some v) w.pool })
-  everywhere-asked w n v here h = record { slots = h.slots; out = Totals.all-set P w.pool.out n (Some v) here h.out; returned = h.returned }
-
 -- what holds of each holds of each
 pub everywhere-map : (P Q : Seen → Type 0) (w : World) → ((s : Seen) → P s → Q s) → Everywhere P w → Everywhere Q w
 everywhere-map P Q w f h = record {

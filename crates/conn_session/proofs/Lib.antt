@@ -9,7 +9,9 @@ pub mod Aims
 pub mod Honest
 pub mod Gets
 pub mod Responses
+pub mod BlockAnswers
 pub mod Deeds
+pub mod Verbs
 pub mod Runs
 pub mod Closing
 pub mod Ended

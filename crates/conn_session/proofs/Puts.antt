@@ -16,7 +16,7 @@ use Rattle.conn_session.specs.Plays.{PlaysPut}
 use Rattle.conn_session.specs.Responses.{seat_of}
 use Rattle.conn_session.specs.Steps.{Steps, IsLater}
 use Rattle.conn_session.specs.Worlds.{World, Invariant, part, refusals, context_of}
-use Rattle.conn_session.proofs.Counts.{later-refl, no_cause, put_not_refused, put_not_unopened, opening-refl}
+use Rattle.conn_session.proofs.Counts.{later-refl, no_cause, blocks_later, put_not_refused, put_not_unopened, opening-refl}
 use Rattle.conn_session.proofs.Growing.{grows_nothing, everywhere-kept_back, everywhere-closed_back}
 use Rattle.conn_session.proofs.Moving.{kept_back, closed_back}
 use Rattle.conn_session.proofs.Shown.{seats-at, context-gives_slot}
@@ -35,25 +35,25 @@ module _ (honest : Bool) (line n : ℕ) (w : World) (entry : Entry) where
       let there : at_number n (context_of w).out ≡ None = seats-at w.pool.out n None none in
       record {
         keeps = record { holds = holds; counts = later-refl w; opening = opening-refl w };
-        plays = subst (PlaysPut line n (context_of w) entry (context_of w)) (sym there) (record { entry_is = entry_is; context_is = refl });
-        caused = no_cause w w entry replies.NotOut (ap (λ (e : Entry). e.reply) entry_is) (λ h. h) (λ h. h);
+        plays_entry = subst (PlaysPut line n (context_of w) entry (context_of w)) (sym there) (record { entry_is = entry_is; context_is = refl });
+        caused = λ b. (no_cause w w entry replies.NotOut (ap (λ (e : Entry). e.reply) entry_is) (λ h. h) (λ h. h), b);
         grows = λ _. grows_nothing (λ p logs. reads p logs line (Put n)) w w entry (λ logs known. known)
             (λ logs. ap (λ (o : Option Seat). Some (taken_put (progress w) logs line n o)) there ∙ ap (λ (e : Entry). Some (taken e (progress w) logs)) (sym entry_is));
       }
 
   -- what is said of both ways to give a connection back
   module _ (v : View) (new : World) (there : at_number n w.pool.out ≡ Some v) (entry_is : entry ≡ entry_on line words.Put (put_reply v.status) (seat_of v)) where
-    given_back : context_of new ≡ record (context_of w) { slots = (context_of w).slots ++ put_slot (seat_of v) ∷ []; out = slice_set (context_of w).out n None } → Invariant new → IsLater w new
+    given_back : context_of new ≡ record (context_of w) { slots = (context_of w).slots ++ put_slot (seat_of v) ∷ []; out = slice_set (context_of w).out n None } → Invariant new → IsLater w new → new.pool.blocks ≡ w.pool.blocks
         → progress new ≡ record (progress w) { context = context_of new } → new.pool.dialect ≡ w.pool.dialect → new.pool.target ≡ w.pool.target → new.pool.size ≡ w.pool.size → new.connector.targets ≡ w.connector.targets → new.connector.armed ≡ w.connector.armed
         → ((logs : ServerLogs) → IsKnown logs w → IsKnown logs new) → Steps honest line (Put n) w new (Ok entry)
-    given_back shown holds counts progress_is d t s a p kept = record {
+    given_back shown holds counts blocks progress_is d t s a p kept = record {
       keeps = record {
         holds = holds;
         counts = counts;
         opening = record { dialect = d; target = t; size = s; plan = p; aims = λ h. subst (AreAt w.pool.target) (sym a) h };
       };
-      plays = subst (PlaysPut line n (context_of w) entry (context_of new)) (sym (seats-at w.pool.out n (Some v) there)) (record { entry_is = entry_is; context_is = shown });
-      caused = no_cause w new entry (put_reply v.status) (ap (λ (e : Entry). e.reply) entry_is) (put_not_refused v.status) (put_not_unopened v.status);
+      plays_entry = subst (PlaysPut line n (context_of w) entry (context_of new)) (sym (seats-at w.pool.out n (Some v) there)) (record { entry_is = entry_is; context_is = shown });
+      caused = λ b. (no_cause w new entry (put_reply v.status) (ap (λ (e : Entry). e.reply) entry_is) (put_not_refused v.status) (put_not_unopened v.status), blocks_later w new blocks counts b);
       grows = λ _. grows_nothing (λ p logs. reads p logs line (Put n)) w new entry kept
           (λ logs. ap (λ (o : Option Seat). Some (taken_put (progress w) logs line n o)) (seats-at w.pool.out n (Some v) there)
           ∙ ap (λ (c : Context). Some (taken (entry_on line words.Put (put_reply v.status) (seat_of v)) (record (progress w) { context = c }) logs)) (sym shown)
@@ -73,7 +73,7 @@ module _ (honest : Bool) (line n : ℕ) (w : World) (entry : Entry) where
       (context-gives_slot w n None (Some v) ∙ ap (λ (s : Option Seat). record (context_of w) { slots = (context_of w).slots ++ s ∷ []; out = slice_set (context_of w).out n None }) (sym (slot_kept (is_kept v.status) (seat_of v) kept)))
       (kept_back w n v there holds)
       (record { later = omega arith; refusals_later = λ m. omega (arith, out (refusals m), slots (refusals m)) })
-      refl refl refl refl refl refl
+      refl refl refl refl refl refl refl
       (λ logs known. record { servers = everywhere-kept_back (Has w.pool.dialect w.connector.armed logs) w n v there known.servers; fresh = known.fresh })
 
   -- the connection is closed, and the slot at the back is empty
@@ -89,5 +89,5 @@ module _ (honest : Bool) (line n : ℕ) (w : World) (entry : Entry) where
       (context-gives_slot w n None None ∙ ap (λ (s : Option Seat). record (context_of w) { slots = (context_of w).slots ++ s ∷ []; out = slice_set (context_of w).out n None }) (sym (slot_closed (is_kept v.status) (seat_of v) closed)))
       (closed_back w n v there holds)
       (record { later = omega arith; refusals_later = λ m. omega (arith, out (refusals m), slots (refusals m), back (refusals m)) })
-      refl refl refl refl refl refl
+      refl refl refl refl refl refl refl
       (λ logs known. record { servers = everywhere-closed_back (Has w.pool.dialect w.connector.armed logs) w n v there known.servers; fresh = known.fresh })

@@ -6,6 +6,7 @@ use Rattle.conn_result.specs.declared.error.Error.{Error}
 use Rattle.conn_result.specs.declared.error.Error.TheVariants.{OutOfMemory}
 use Rattle.conn_model.specs.Acts.{Acts, IsSameServer}
 use Rattle.conn_model.specs.Process.{Sent, Follows}
+use Rattle.conn_model.specs.Seen.{Seen}
 use Rattle.conn_model.specs.declared.item.Dialect.{Dialect}
 use Rattle.conn_model.specs.declared.item.Refusal.{Refusal}
 use Rattle.conn_model.proofs.Mapped.{acts_map}
@@ -13,10 +14,10 @@ use Rattle.conn_manager.specs.Manages.{Done, done, Reply as Answer, HasServerCau
 use Rattle.conn_manager.specs.Statuses.{Status, reply_of}
 use Rattle.conn_manager.specs.Views.{View, ActsOrMemoryFrom}
 use Rattle.conn_reading.specs.Asking.{outcome, call_process, process_of, reply_as, told_as}
+use Rattle.conn_reading.specs.declared.deed.Deed.{Deed}
+use Rattle.conn_reading.specs.declared.deed.Deed.TheVariants as deeds
 use Rattle.conn_report.specs.declared.entry.Reply.{Reply}
-use Rattle.conn_script.specs.declared.request.Deed.{Deed}
-use Rattle.conn_script.specs.declared.request.Deed.TheVariants as deeds
-use Rattle.conn_session.specs.Responses.{Replies, Does, IsAnswer, IsRefused}
+use Rattle.conn_session.specs.Responses.{Replies, Does, IsAnswer, IsErrorOf, CountsRefusal, IsRefused}
 
 -- a text is answered by its server alone
 text_answered : (d : Dialect) (text : List ℕ) (s : Status) (sent : List Sent) (a : Done) → Follows (send_process d text s) sent a → (refusal : Option Refusal) × (a.reply ≡ reply_of refusal)
@@ -28,20 +29,28 @@ server_error : (text : List ℕ) (answer : Answer) (refusal : Option Refusal) �
 server_error text answer None e = subst (λ (a : Answer). IsAnswer (deeds.Batch text) (reply_as a)) (sym e) tt
 server_error text answer (Some r) e = subst (λ (a : Answer). IsAnswer (deeds.Batch text) (reply_as a)) (sym e) tt
 
+-- a call of the manager answers any error but want of memory
+call_answered : (deed : Deed) (answer : Answer) → ((e : Error) → e ≢ OutOfMemory → IsErrorOf deed e) → answer ≢ Err OutOfMemory → IsAnswer deed (reply_as answer)
+call_answered deed (Ok u) errors memory = tt
+call_answered deed (Err e) errors memory = errors e (λ same. memory (ap (λ (x : Error). Err x) same))
+
 is_answer : (deed : Deed) (d : Dialect) (s t : Status) (sent : List Sent) (answer : Answer) → answer ≢ Err OutOfMemory → Follows (call_process deed d s) sent (done answer t) → IsAnswer deed (reply_as answer)
 is_answer (deeds.Batch text) d s t sent answer memory h = (let a = text_answered d text s sent (done answer t) h in server_error text answer a.0 a.1)
-is_answer deeds.Begin d s t sent (Ok u) memory h = tt
-is_answer deeds.Begin d s t sent (Err e) memory h = λ same. memory (ap (λ (x : Error). Err x) same)
-is_answer deeds.Commit d s t sent (Ok u) memory h = tt
-is_answer deeds.Commit d s t sent (Err e) memory h = λ same. memory (ap (λ (x : Error). Err x) same)
-is_answer deeds.Rollback d s t sent (Ok u) memory h = tt
-is_answer deeds.Rollback d s t sent (Err e) memory h = λ same. memory (ap (λ (x : Error). Err x) same)
+is_answer deeds.Begin d s t sent answer memory h = call_answered deeds.Begin answer (λ e m. m) memory
+is_answer deeds.Commit d s t sent answer memory h = call_answered deeds.Commit answer (λ e m. m) memory
+is_answer deeds.Rollback d s t sent answer memory h = call_answered deeds.Rollback answer (λ e m. m) memory
+is_answer deeds.TestBegin d s t sent answer memory h = call_answered deeds.TestBegin answer (λ e m. m) memory
+is_answer (deeds.Close kind result) d s t sent answer memory h = call_answered (deeds.Close kind result) answer (λ e m. m) memory
 
 refusal_is : (answer : Answer) → IsRefused (reply_as answer) → IsRefusal answer
 refusal_is (Ok u) h = absurd h
 refusal_is (Err e) h = h
 
-module _ (honest : Bool) (deed : Deed) (old new : View) (answer : Answer) (asks : ActsOrMemoryFrom honest (call_process deed) old new answer) (cause : HasServerCause old.seen new.seen answer) where
+-- a call whose refusals are its server's
+pub counted_by : (deed : Deed) (old new : Seen) (answer : Answer) → HasServerCause old new answer → CountsRefusal deed old new (reply_as answer)
+counted_by deed old new answer cause = record { later = cause.later; refused = λ h. inl (cause.refused (refusal_is answer h)) }
+
+module _ (honest : Bool) (deed : Deed) (old new : View) (answer : Answer) (asks : ActsOrMemoryFrom honest (call_process deed) old new answer) (cause : CountsRefusal deed old.seen new.seen (reply_as answer)) where
   same_server : IsSameServer old.seen new.seen
   same_server = elim asks [ inl h ↦ h.1.same | inr acts ↦ acts.same ]
 
@@ -52,7 +61,7 @@ module _ (honest : Bool) (deed : Deed) (old new : View) (answer : Answer) (asks 
       acts = subst (λ (r : Reply). Acts honest (process_of old.seen.dialect deed old.status) old.seen new.seen (outcome r new.status)) (sym e)
           (acts_map told_as honest (call_process deed old.seen.dialect old.status) old.seen new.seen (done answer new.status) acts);
       answer = subst (IsAnswer deed) (sym e) (is_answer deed old.seen.dialect old.status new.status acts.sent answer memory acts.follows);
-      refused = λ h. cause.refused (refusal_is answer (subst IsRefused e h));
+      counted = subst (CountsRefusal deed old.seen new.seen) (sym e) cause;
     }
   ]
 

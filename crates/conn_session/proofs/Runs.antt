@@ -55,12 +55,15 @@ grows-push start old new commands command entries entry r s = λ logs known.
     )
 
 pub runs-none : (honest : Bool) (w : World) → Runs honest [] w w []
-runs-none honest w = record { plays = refl; caused = tt; grows = λ _. grows-none w }
+runs-none honest w = record { plays_entries = refl; caused = λ b. (tt, b); grows = λ _. grows-none w }
 
 pub runs-push : (honest : Bool) (start old new : World) (commands : List Command) (command : Command) (entries : List Entry) (entry : Entry) → KeepsAll start old → Runs honest commands start old entries
     → Steps honest command.line (request_of command.act) old new (Ok entry) → Runs honest (commands ++ command ∷ []) start new (entries ++ entry ∷ [])
 runs-push honest start old new commands command entries entry keeps r s = record {
-  plays = PlaysAll-push (context_of start) (context_of old) (context_of new) commands entries command entry r.plays s.plays;
-  caused = all_caused start old new entries entry keeps.counts s.keeps.counts r.caused s.caused;
+  plays_entries = PlaysAll-push (context_of start) (context_of old) (context_of new) commands entries command entry r.plays_entries s.plays_entry;
+  caused = λ b.
+      let first = r.caused b in
+      let second = s.caused first.1 in
+      (all_caused start old new entries entry keeps.counts s.keeps.counts first.0 second.0, second.1);
   grows = λ h. grows-push start old new commands command entries entry (r.grows h) (s.grows h);
 }

@@ -16,6 +16,7 @@ use Rattle.conn_report.specs.declared.entry.Entry.{Entry}
 use Rattle.conn_report.specs.declared.entry.Transcript.{Transcript}
 use Rattle.conn_report.specs.Report.{report}
 use Rattle.conn_script.specs.Grammar.{script_of}
+use Rattle.conn_script.specs.declared.command.Command.{Command}
 use Rattle.conn_script.specs.declared.command.Script.{Script}
 use Rattle.conn_script.specs.declared.command.SessionError.{SessionError}
 use Rattle.conn_script.specs.declared.command.SessionError.TheVariants.{BadScript, OutOfMemory}
@@ -54,28 +55,32 @@ abbrev pub kept_by : Dialect → List Item → Option Writes
 kept_by d log = option_map kept (state_of d log)
 
 -- under the premises of the fold a server keeps the fold of all its entries
-abbrev pub FoldsOf : Dialect → ServerLogs → List Entry → ℕ → Type 0
-FoldsOf d logs entries n = is_opened n entries ≡ true → EntryPremises d n (logs n) entries
-    → kept_by d (logs n) ≡ Some (fold_entries n (logs n) entries unfolded).stack.lowest
+abbrev pub FoldsOf : Dialect → ServerLogs → List Command → List Entry → ℕ → Type 0
+FoldsOf d logs commands entries n =
+    is_opened n entries ≡ true → EntryPremises d n (logs n) commands entries
+    → kept_by d (logs n) ≡ Some (fold_entries n (logs n) commands entries unfolded).stack.lowest
 
 -- on SQLite these premises hold of each server that was opened and refused no text of a transaction
-abbrev pub HasPremises : Dialect → ServerLogs → List Entry → ℕ → Type 0
-HasPremises d logs entries n = d ≡ Sqlite → is_opened n entries ≡ true
-    → list_any refuses_transaction (logs n) ≡ false → EntryPremises d n (logs n) entries
+abbrev pub HasPremises : Dialect → ServerLogs → List Command → List Entry → ℕ → Type 0
+HasPremises d logs commands entries n = d ≡ Sqlite → is_opened n entries ≡ true
+    → list_any refuses_transaction (logs n) ≡ false → EntryPremises d n (logs n) commands entries
 
--- the logs bear the entries out: each status up to its mark, each depth over its server, no depth where `get` hands out; and
+-- the logs bear the entries out: each status up to its mark, each depth over its server, no open transaction but a test's where
+-- `get` hands out; and
 -- under the premises of the fold a server held, after each entry of its connection, the stack of the fold up to it
-pub record AreBorneOutBy (d : Dialect) (logs : ServerLogs) (entries : List Entry) : Type 0 where
+pub record AreBorneOutBy (d : Dialect) (logs : ServerLogs) (commands : List Command) (entries : List Entry) : Type 0 where
   pub verdicts : EachVerdict d logs entries
   pub depths : EachStandsOver d logs entries
   pub clean : EachClean entries
-  pub nested : (n : ℕ) → EntryPremises d n (logs n) entries → EachNested d n (logs n) entries unfolded
-  pub folds : (n : ℕ) → FoldsOf d logs entries n
-  pub on_sqlite : (n : ℕ) → HasPremises d logs entries n
+  pub nested : (n : ℕ) → EntryPremises d n (logs n) commands entries
+      → EachNested d n (logs n) commands entries unfolded
+  pub folds : (n : ℕ) → FoldsOf d logs commands entries n
+  pub on_sqlite : (n : ℕ) → HasPremises d logs commands entries n
 
 -- so do the logs of the servers that are back
 abbrev pub AreBorneOut : Script → Connected → List Entry → Type 0
-AreBorneOut script k entries = AreBorneOutBy script.dialect (logs_of k.returned) entries
+AreBorneOut script k entries =
+    AreBorneOutBy script.dialect (logs_of k.returned) script.commands entries
 
 -- some bytes stand for the script
 pub record IsParsed (script : Script) : Type 0 where

@@ -5,14 +5,17 @@ use Rattle.conn_manager.specs.Statuses.{no_depth}
 use Rattle.conn_report.specs.declared.entry.Entry.{Entry}
 use Rattle.conn_report.specs.declared.entry.Reply.{Reply}
 use Rattle.conn_report.specs.declared.entry.Reply.TheVariants as replies
-use Rattle.conn_script.specs.Requests.{request_of, deed_word}
+use Rattle.conn_script.specs.Requests.{request_of, verb_word}
 use Rattle.conn_script.specs.declared.command.Command.{Command}
 use Rattle.conn_script.specs.declared.command.Word.{Word}
 use Rattle.conn_script.specs.declared.command.Word.TheVariants as words
-use Rattle.conn_script.specs.declared.request.Deed.{Deed}
 use Rattle.conn_script.specs.declared.request.Request.{Request}
 use Rattle.conn_script.specs.declared.request.Request.TheVariants.{Get, Put, On}
+use Rattle.conn_script.specs.declared.request.Verb.{Verb}
+use Rattle.conn_reading.specs.Answered.{skip_entry}
+use Rattle.conn_reading.specs.Blocks.{block_on, blocks_after, deed_of}
 use Rattle.conn_reading.specs.Seats.{Seat, Context, at_first, at_number, entry_on, entry_without, put_reply, put_slot}
+use Rattle.conn_reading.specs.declared.deed.Deed.{Deed}
 use Rattle.conn_session.specs.Responses.{IsAnswer}
 
 -- ---- get and put
@@ -23,7 +26,7 @@ pub record FillsSlot (line : ℕ) (rest : List (Option Seat)) (old : Context) (e
   pub numbered : seat.number ≡ old.opened
   pub status : seat.status ≡ no_depth
   pub entry_is : entry ≡ entry_on line words.Get replies.Ok seat
-  pub context_is : new ≡ record { slots = rest; out = old.out ++ Some seat ∷ []; opened = old.opened + 1 }
+  pub context_is : new ≡ record old { slots = rest; out = old.out ++ Some seat ∷ []; opened = old.opened + 1 }
 
 -- the connector refused: the slot is at the back, still empty
 pub record KeepsSlotEmpty (line : ℕ) (rest : List (Option Seat)) (old : Context) (entry : Entry) (new : Context) : Type 0 where
@@ -64,18 +67,34 @@ PlaysPut line n old entry new (Some seat) = GivesBack line n seat old entry new
 -- ---- a command on a connection
 
 -- a deed was answered: the connection stays at its place
-pub record Responds (line : ℕ) (deed : Deed) (n : ℕ) (seat : Seat) (old : Context) (entry : Entry) (new : Context) : Type 0 where
+pub record Responds (line : ℕ) (word : Word) (deed : Deed) (n : ℕ) (seat : Seat) (old : Context) (entry : Entry) (new : Context) : Type 0 where
   pub reply : Reply
   pub after : Seat
   pub answer : IsAnswer deed reply
   pub numbered : after.number ≡ seat.number
-  pub entry_is : entry ≡ entry_on line (deed_word deed) reply after
+  pub entry_is : entry ≡ entry_on line word reply after
   pub context_is : new ≡ record old { out = slice_set old.out n (Some after) }
 
 -- a deed on the connection of a number, where it is out
-abbrev pub PlaysOn : ℕ → Deed → ℕ → Context → Entry → Context → Option Seat → Type 0
-PlaysOn line deed n old entry new None = PlaysAbsent line (deed_word deed) n old entry new
-PlaysOn line deed n old entry new (Some seat) = Responds line deed n seat old entry new
+abbrev pub PlaysOn : ℕ → Word → Deed → ℕ → Context → Entry → Context → Option Seat → Type 0
+PlaysOn line word deed n old entry new None = PlaysAbsent line word n old entry new
+PlaysOn line word deed n old entry new (Some seat) = Responds line word deed n seat old entry new
+
+-- a command by its deed; without one it is skipped
+abbrev pub PlaysDeed : ℕ → Word → Option Deed → ℕ → Context → Entry → Context → Option Seat → Type 0
+PlaysDeed line word None n old entry new place = Finds (skip_entry line word n place) old entry new
+PlaysDeed line word (Some deed) n old entry new place = PlaysOn line word deed n old entry new place
+
+-- a command on the connection of a number: by the open blocks it has a deed or is skipped
+abbrev pub PlaysByDeed : ℕ → ℕ → Verb → Context → Entry → Context → Type 0
+PlaysByDeed line n verb old entry new =
+    PlaysDeed line (verb_word verb) (deed_of (block_on n old.blocks) verb) n old entry new (at_number n old.out)
+
+-- and then its reply tells the blocks
+pub record PlaysVerb (line n : ℕ) (verb : Verb) (old : Context) (entry : Entry) (new : Context) : Type 0 where
+  pub mid : Context
+  pub by_deed : PlaysByDeed line n verb old entry mid
+  pub context_is : new ≡ record mid { blocks = blocks_after n verb entry.reply mid.blocks }
 
 -- ---- all commands
 
@@ -83,7 +102,7 @@ PlaysOn line deed n old entry new (Some seat) = Responds line deed n seat old en
 abbrev pub Plays : ℕ → Request → Context → Entry → Context → Type 0
 Plays line Get old entry new = PlaysGet line old entry new old.slots
 Plays line (Put n) old entry new = PlaysPut line n old entry new (at_number n old.out)
-Plays line (On n deed) old entry new = PlaysOn line deed n old entry new (at_number n old.out)
+Plays line (On n verb) old entry new = PlaysVerb line n verb old entry new
 
 -- commands gave these entries, one for each, in order
 abbrev pub PlaysAll : Context → List Command → List Entry → Context → Type 0

@@ -1,18 +1,26 @@
 -- What the commands of a session do to it and to its connector.
-use Rattle.std.specs.Prelude.{ℕ, ◌≡◌, ◌<◌, ◌≤◌, Bool, true, List, Some, Result, IfOk, sum_by}
+use Rattle.std.specs.Prelude.{ℕ, ◌≡◌, ◌<◌, ◌≤◌, ◌⊎◌, ⊤, Bool, true, List, Option, Some, Result, Err, IfOk, sum_by}
 use Rattle.std.specs.List.{AllByRecursion}
 use Rattle.std.specs.declared.alloc.AllocError.{AllocError}
 use Rattle.conn_result.specs.Causes.{Rose}
 use Rattle.conn_model.specs.Seen.{Seen}
-use Rattle.conn_reading.specs.Answered.{ServerLogs, reads}
+use Rattle.conn_manager.specs.Manages.{IsRefusal}
+use Rattle.conn_reading.specs.Answered.{ServerLogs, Progress, Taken, reads, reads_by_deed, reads_on}
+use Rattle.conn_reading.specs.Seats.{Context, at_number}
+use Rattle.conn_reading.specs.declared.blocks.Block.{Block}
+use Rattle.conn_reading.specs.declared.blocks.BlockState.{BlockState}
+use Rattle.conn_reading.specs.declared.blocks.BlockState.TheVariants.{Refused}
+use Rattle.conn_reading.specs.declared.deed.Deed.{Deed}
 use Rattle.conn_report.specs.declared.entry.Entry.{Entry}
 use Rattle.conn_script.specs.declared.command.Command.{Command}
+use Rattle.conn_script.specs.declared.command.Word.{Word}
 use Rattle.conn_script.specs.declared.request.Request.{Request}
+use Rattle.conn_script.specs.declared.request.Verb.{Verb}
 use Rattle.conn_server.specs.Connected.{Connected, AreAt}
 use Rattle.conn_session.specs.Known.{Has, IsKnown, Grows, GrowsAll}
 use Rattle.conn_session.specs.Worlds.{World, Invariant, context_of, sum_all, refusals}
-use Rattle.conn_session.specs.Plays.{Plays, PlaysAll}
-use Rattle.conn_session.specs.Responses.{IsRefused, IsUnopened}
+use Rattle.conn_session.specs.Plays.{Plays, PlaysOn, PlaysByDeed, PlaysAll}
+use Rattle.conn_session.specs.Responses.{IsRefused, IsBlocks, IsUnopened}
 
 -- no count of refusals fell
 pub record IsLater (old new : World) : Type 0 where
@@ -29,6 +37,15 @@ pub record IsCausedBy (servers : ℕ → ℕ) (before now : ℕ) (entry : Entry)
 abbrev pub IsCausedIn : World → World → Entry → Type 0
 IsCausedIn old new = IsCausedBy (λ n. sum_all (refusals n) new) old.connector.failures new.connector.failures
 
+-- a refusal by which a block stands was counted by its connection's server
+abbrev pub IsCausedState : (ℕ → ℕ) → ℕ → BlockState → Type 0
+IsCausedState servers n (Refused e) = IsRefusal (Err e) → 0 < servers n
+IsCausedState servers n _ = ⊤
+
+-- so is that of each open block
+abbrev pub AreBlocksCaused : World → Type 0
+AreBlocksCaused w = AllByRecursion (λ (b : Block). IsCausedState (λ n. sum_all (refusals n) w) b.connection b.state) w.pool.blocks
+
 -- what no command changes: how connections are opened, how many slots there are, the plan, and that attempts are at the target
 pub record KeepsOpening (old new : World) : Type 0 where
   pub dialect : new.pool.dialect ≡ old.pool.dialect
@@ -43,18 +60,42 @@ pub record KeepsAll (old new : World) : Type 0 where
   pub counts : IsLater old new
   pub opening : KeepsOpening old new
 
--- one command: no server is lost; the entry is one that it may give, each refusal in it was counted, and over honest servers it
--- is read from what their logs grew by
-pub record Steps (honest : Bool) (line : ℕ) (request : Request) (old new : World) (result : Result Entry AllocError) : Type 0 where
+-- a command, by what it may give and how it is read: no server is lost; the entry is one that it may give, each refusal in it
+-- was counted, and over honest servers it is read from what their logs grew by
+pub record StepsBy (plays : Context → Entry → Context → Type 0) (reading : Progress → ServerLogs → Option Taken) (honest : Bool) (old new : World) (result : Result Entry AllocError) : Type 0 where
   pub keeps : KeepsAll old new
-  pub plays : IfOk result (λ entry. Plays line request (context_of old) entry (context_of new))
-  pub caused : IfOk result (IsCausedIn old new)
-  pub grows : honest ≡ true → IfOk result (Grows (λ p logs. reads p logs line request) old new)
+  pub plays_entry : IfOk result (λ entry. plays (context_of old) entry (context_of new))
+  pub caused : AreBlocksCaused old → IfOk result (λ entry. IsCausedIn old new entry × AreBlocksCaused new)
+  pub grows : honest ≡ true → IfOk result (Grows reading old new)
+
+-- one command
+abbrev pub Steps : Bool → ℕ → Request → World → World → Result Entry AllocError → Type 0
+Steps honest line request = StepsBy (Plays line request) (λ p logs. reads p logs line request) honest
+
+-- the entry of a deed on connection n: a refusal in it was counted, or is that of the block which closes
+pub record IsCausedOn (n : ℕ) (deed : Deed) (new : World) (entry : Entry) : Type 0 where
+  pub on : entry.connection ≡ Some n
+  pub refused : IsRefused entry.reply → (0 < sum_all (refusals n) new) ⊎ IsBlocks deed entry.reply
+  pub opened : IsUnopened entry.reply → ⊥
+
+-- a deed on the connection of a number, whatever blocks are open
+pub record DoesOn (honest : Bool) (line n : ℕ) (word : Word) (deed : Deed) (old new : World) (result : Result Entry AllocError) : Type 0 where
+  pub keeps : KeepsAll old new
+  pub blocks : new.pool.blocks ≡ old.pool.blocks
+  pub plays_entry : IfOk result (λ entry. PlaysOn line word deed n (context_of old) entry (context_of new) (at_number n (context_of old).out))
+  pub caused : IfOk result (IsCausedOn n deed new)
+  pub grows : honest ≡ true → IfOk result (Grows (λ p logs. reads_on p logs line word deed n (at_number n p.context.out)) old new)
+
+-- a command on connection n by its deed, or skipped, before its reply tells the blocks
+pub record StepsDeed (honest : Bool) (line n : ℕ) (verb : Verb) (old new : World) (result : Result Entry AllocError) : Type 0 where
+  pub steps : StepsBy (PlaysByDeed line n verb) (reads_by_deed line n verb) honest old new result
+  pub blocks : new.pool.blocks ≡ old.pool.blocks
+  pub on : IfOk result (λ entry. entry.connection ≡ Some n)
 
 -- some commands, with their entries in order
 pub record Runs (honest : Bool) (commands : List Command) (old new : World) (entries : List Entry) : Type 0 where
-  pub plays : PlaysAll (context_of old) commands entries (context_of new)
-  pub caused : AllByRecursion (IsCausedIn old new) entries
+  pub plays_entries : PlaysAll (context_of old) commands entries (context_of new)
+  pub caused : AreBlocksCaused old → AllByRecursion (IsCausedIn old new) entries × AreBlocksCaused new
   pub grows : honest ≡ true → GrowsAll old new commands entries
 
 -- every server is with the connector, as it was

@@ -5,7 +5,10 @@ use Rattle.conn_model.specs.Seen.{Seen}
 use Rattle.conn_model.specs.declared.item.Dialect.{Dialect}
 use Rattle.conn_model.specs.declared.plan.PlanLine.{PlanLine}
 use Rattle.conn_manager.specs.Views.{View}
+use Rattle.conn_report.specs.declared.entry.Reply.{Reply}
+use Rattle.conn_script.specs.declared.request.Verb.{Verb}
 use Rattle.conn_reading.specs.Answered.{ServerLogs}
+use Rattle.conn_reading.specs.Blocks.{blocks_after}
 use Rattle.conn_server.specs.Connected.{Connected, takes_back}
 use Rattle.conn_session.specs.Known.{Has, OfServer}
 use Rattle.conn_session.specs.Worlds.{Pool, World, part, each_server}
@@ -30,6 +33,10 @@ puts_out n view p = record p { out = slice_set p.out n view }
 -- a place for the next number has this
 abbrev pub adds_out : View → Pool → Pool
 adds_out view p = record p { out = p.out ++ Some view ∷ [] }
+
+-- the reply to a command of connection n told the blocks
+abbrev pub tells_blocks : ℕ → Verb → Reply → World → World
+tells_blocks n verb reply w = record w { pool = record w.pool { blocks = blocks_after n verb reply w.pool.blocks } }
 
 -- the server of a connection is with the connector, where there is one
 abbrev pub gives_back : Option View → Connected → Connected

@@ -7,19 +7,21 @@ use Rattle.conn_model.specs.declared.plan.Target.{Target}
 use Rattle.conn_manager.specs.Views.{View}
 use Rattle.conn_manager.specs.declared.instrumentation.NoInstrumentation.{NoInstrumentation}
 use Rattle.conn_reading.specs.Seats.{Seat, Context}
+use Rattle.conn_reading.specs.declared.blocks.Block.{Block}
 use Rattle.conn_server.specs.Connected.{Connected}
 use Rattle.conn_session.specs.Responses.{seat_of, shows}
 use Rattle.conn_session.specs.declared.connection.ServerConnection.{ServerConnection}
 use Rattle.conn_session.specs.declared.session.Session.{Session}
 
--- How connections are opened, how many slots there are, the slots that aren't handed out, front first, and the connections
--- that are, each at the place of its number.
+-- How connections are opened, how many slots there are, the slots that aren't handed out, front first, the connections that
+-- are, each at the place of its number, and the open blocks, innermost first.
 pub record Pool : Type 0 where
   pub dialect : Dialect
   pub target : Target
   pub size : ℕ
   pub slots : List (Option View)
   pub out : List (Option View)
+  pub blocks : List Block
 
 -- a pool, and the connector from which its servers come
 pub record World : Type 0 where
@@ -28,7 +30,7 @@ pub record World : Type 0 where
 
 -- a pool of one empty slot
 abbrev pub new_pool : Dialect → Target → Pool
-new_pool dialect target = record { dialect = dialect; target = target; size = 1; slots = None ∷ []; out = [] }
+new_pool dialect target = record { dialect = dialect; target = target; size = 1; slots = None ∷ []; out = []; blocks = [] }
 
 module _ {S : Type 0} (seen : S → Seen) where
   -- what a connection of the session shows, whose handler tells nothing
@@ -41,7 +43,7 @@ module _ {S : Type 0} (seen : S → Seen) where
 
   -- what a session shows
   abbrev pub pool_of : Session S → Pool
-  pool_of s = record { dialect = s.dialect; target = s.target; size = s.size; slots = views_of s.slots.items; out = views_of s.out.items }
+  pool_of s = record { dialect = s.dialect; target = s.target; size = s.size; slots = views_of s.slots.items; out = views_of s.out.items; blocks = s.blocks }
 
   -- a session and its connector
   abbrev pub world_of : Session S → Connected → World
@@ -55,7 +57,7 @@ seats_of vs = map (option_map seat_of) vs
 
 -- the whole of them
 abbrev pub context_of : World → Context
-context_of w = record { slots = seats_of w.pool.slots; out = seats_of w.pool.out; opened = w.connector.opened }
+context_of w = record { slots = seats_of w.pool.slots; out = seats_of w.pool.out; opened = w.connector.opened; blocks = w.pool.blocks }
 
 -- ---- each server is in one place
 

@@ -8,8 +8,9 @@ ghost use Rattle.conn_session.specs.Worlds.{part, each_server, view_of};
 
 use crate::ServerConnection;
 use conn_manager::{NoInstrumentation, TransactionManagerStatus};
+use conn_reading::Deed;
 use conn_report::{Entry, Reply};
-use conn_script::{Deed, Word};
+use conn_script::Word;
 use conn_server::{Connector, Server};
 use std::alloc::AllocError;
 
@@ -32,7 +33,10 @@ pub fn is_kept(status: &TransactionManagerStatus) -> bool
     ensures { result ≡ is_kept status.now }
 {
     match status {
-        TransactionManagerStatus::Valid(v) => v.in_transaction.is_none(),
+        TransactionManagerStatus::Valid(v) => match v.in_transaction {
+            None => true,
+            Some(t) => t.test_transaction,
+        },
         TransactionManagerStatus::InError => false,
     }
 }
@@ -41,14 +45,15 @@ pub fn is_kept(status: &TransactionManagerStatus) -> bool
 pub fn act_in<S: Server>(
     place: &mut Option<ServerConnection<S, NoInstrumentation>>,
     line: u32,
+    word: Word,
     deed: &Deed<'_>,
 ) -> Option<Result<Entry, AllocError>>
-    ensures { ActsIn S.is_honest line deed.now (option_map (view_of S.seen) place.old)
+    ensures { ActsIn S.is_honest line word deed.now (option_map (view_of S.seen) place.old)
         (option_map (view_of S.seen) place.new) result }
 {
     match place {
         None => None,
-        Some(connection) => Some(connection.run(line, deed)),
+        Some(connection) => Some(connection.run(line, word, deed)),
     }
 }
 

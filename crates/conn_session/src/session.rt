@@ -5,14 +5,16 @@ ghost use Rattle.std.specs.VecDeque.{deque_len, deque_capacity};
 use crate::ServerConnection;
 use crate::places::{act_in, entry_without, give_back, is_kept};
 use conn_manager::{Connection, NoInstrumentation};
+use conn_reading::{Blocks, Deed};
 use conn_report::{Entry, Reply};
 use conn_result::ConnectionError;
-use conn_script::{Command, Deed, Request, Word};
+use conn_script::{Command, Request, Verb, Word};
 use conn_server::{ConnectRefusal, Connector, Dialect, Server, Target};
 use std::alloc::{AllocError, Global};
 use std::collections::VecDeque;
 
-/// The slots of the pool that aren't handed out, front first, and the connections that are, each at the place of its number.
+/// The slots of the pool that aren't handed out, front first, the connections that are, each at the place of its number, and the
+/// open blocks.
 #[derive(Drop)]
 pub struct Session<S> {
     alloc: Global,
@@ -21,22 +23,21 @@ pub struct Session<S> {
     size: usize,
     slots: VecDeque<Option<ServerConnection<S, NoInstrumentation>>>,
     out: Vec<Option<ServerConnection<S, NoInstrumentation>>>,
+    blocks: Blocks,
     ghost in_pool: { deque_len slots ≤ size },
     ghost capacity: { size ≤ deque_capacity slots },
 }
 
 impl<S: Server> Session<S> {
-    ghost use Rattle.std.specs.Prelude.{◌≡◌, ◌<◌, ◌+◌, Ok, None, Some, MatchOption, length, vec_len, vec_capacity, IfOk, OnErr, OnOk, [], ◌∷◌, ◌++◌};
+    ghost use Rattle.std.specs.Prelude.{◌≡◌, ◌<◌, Ok, None, Some, length, vec_len, vec_capacity, IfOk};
     ghost use Rattle.std.specs.Option.{option_map};
-    ghost use Rattle.conn_reading.specs.Seats.{at_number, entry_on as entry_of};
+    ghost use Rattle.conn_reading.specs.Answered.{skip_entry};
+    ghost use Rattle.conn_reading.specs.Seats.{at_number};
     ghost use Rattle.conn_script.specs.Requests.{request_of};
     ghost use Rattle.conn_script.specs.declared.request.Request.TheVariants.{Get as get, Put as put, On as on};
-    ghost use Rattle.conn_script.specs.declared.command.Word.TheVariants as words;
-    ghost use Rattle.conn_report.specs.declared.entry.Reply.TheVariants as replies;
-    ghost use Rattle.conn_session.specs.Responses.{seat_of};
-    ghost use Rattle.conn_session.specs.Worlds.{new_pool, pool_of, view_of, world_of, Invariant};
+    ghost use Rattle.conn_session.specs.Worlds.{new_pool, pool_of, seats_of, view_of, world_of, Invariant};
     ghost use Rattle.conn_session.specs.Transfers.{TakesSlot, gives_slot, in_front, puts_out, adds_out};
-    ghost use Rattle.conn_session.specs.Steps.{KeepsAll, Runs, Steps, Closes};
+    ghost use Rattle.conn_session.specs.Steps.{DoesOn, KeepsAll, Runs, Steps, StepsDeed, Closes};
 
     /// A pool of one empty slot, whose connections are opened so.
     pub fn new(alloc: Global, dialect: Dialect, target: Target) -> Result<Session<S>, AllocError>
@@ -51,6 +52,7 @@ impl<S: Server> Session<S> {
             size: 1,
             slots,
             out: Vec::new(alloc),
+            blocks: Blocks::new(alloc),
         })
     }
 
@@ -182,25 +184,77 @@ impl<S: Server> Session<S> {
     }
 
     /// Does a deed on the connection of a number.
-    fn on<K: Connector<S = S>>(
+    fn act<K: Connector<S = S>>(
         &mut self,
         line: u32,
         n: u32,
+        word: Word,
         deed: &Deed<'_>,
         connector: &K,
     ) -> Result<Entry, AllocError>
         requires { Invariant (world_of S.seen self.old (K.held connector.now)) }
-        ensures { Steps K.is_honest line (on n deed.now)
+        ensures { DoesOn K.is_honest line n word deed.now
             (world_of S.seen self.old (K.held connector.now))
             (world_of S.seen self.new (K.held connector.now)) result }
     {
         let place = n as usize;
         if place < self.out.len() {
-            if let Some(result) = act_in(&mut self.out[place], line, deed) {
+            if let Some(result) = act_in(&mut self.out[place], line, word, deed) {
                 return result;
             }
         }
-        Ok(entry_without(line, deed.word(), Some(n), Reply::NotOut))
+        Ok(entry_without(line, word, Some(n), Reply::NotOut))
+    }
+
+    /// The entry of a command that is skipped, which shows its connection where it is out.
+    fn skip(&self, line: u32, n: u32, word: Word) -> Entry
+        ensures { result ≡ skip_entry line word n
+            (at_number n (seats_of (pool_of S.seen self.now).out)) }
+    {
+        let place = n as usize;
+        if place < self.out.len() {
+            if let Some(connection) = &self.out[place] {
+                return connection.entry(line, word, Reply::Skipped);
+            }
+        }
+        entry_without(line, word, Some(n), Reply::Skipped)
+    }
+
+    /// Does what a command says of the connection of a number, or skips it, as the open blocks say.
+    fn do_or_skip<K: Connector<S = S>>(
+        &mut self,
+        line: u32,
+        n: u32,
+        verb: &Verb<'_>,
+        connector: &K,
+    ) -> Result<Entry, AllocError>
+        requires { Invariant (world_of S.seen self.old (K.held connector.now)) }
+        ensures { StepsDeed K.is_honest line n verb.now
+            (world_of S.seen self.old (K.held connector.now))
+            (world_of S.seen self.new (K.held connector.now)) result }
+    {
+        match self.blocks.deed(n, verb) {
+            Some(deed) => self.act(line, n, verb.word(), &deed, connector),
+            None => Ok(self.skip(line, n, verb.word())),
+        }
+    }
+
+    /// One command on the connection of a number, whose reply then tells the blocks.
+    fn on<K: Connector<S = S>>(
+        &mut self,
+        line: u32,
+        n: u32,
+        verb: &Verb<'_>,
+        connector: &K,
+    ) -> Result<Entry, AllocError>
+        requires { Invariant (world_of S.seen self.old (K.held connector.now)) }
+        ensures { Steps K.is_honest line (on n verb.now)
+            (world_of S.seen self.old (K.held connector.now))
+            (world_of S.seen self.new (K.held connector.now)) result }
+    {
+        let entry = self.do_or_skip(line, n, verb, connector)?;
+        self.blocks.follow(n, verb, entry.reply)?;
+        Ok(entry)
     }
 
     /// One command.
@@ -218,7 +272,7 @@ impl<S: Server> Session<S> {
         match command.act.request() {
             Request::Get => self.get(line, connector),
             Request::Put(n) => Ok(self.put(line, n, connector)),
-            Request::On(n, deed) => self.on(line, n, &deed, connector),
+            Request::On(n, verb) => self.on(line, n, &verb, connector),
         }
     }
 
@@ -255,6 +309,7 @@ impl<S: Server> Session<S> {
             size: _,
             mut slots,
             mut out,
+            blocks: _,
         } = self;
         while let Some(place) = out.pop() {
             give_back(place, connector);

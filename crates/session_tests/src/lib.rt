@@ -4,6 +4,8 @@
 #[cfg(test)]
 mod asks;
 #[cfg(test)]
+mod block_tests;
+#[cfg(test)]
 mod event_tests;
 #[cfg(test)]
 mod manager_tests;

@@ -98,3 +98,43 @@ fn a_name_that_comes_again_hides_the_savepoint_that_stayed(rt: HostRuntime) -> R
     assert!(rt; is_reported(rt.alloc(), script, report)?);
     Ok(())
 }
+
+#[test]
+fn after_a_refusal_the_rest_of_a_block_is_skipped(rt: HostRuntime) -> Result<(), Fail> {
+    let script =
+        b"session sqlite 1 nop nocheck\nrefuse 0 4 5 - stay\nget\ntransaction 0 plain\ntransaction 0 plain\nbatch 0 INSERT a\nbatch 0 INSERT b\nend 0\nbatch 0 INSERT c\nend 0\n";
+    let report =
+        b"3 get 0 | ok | none | 0\n4 transaction 0 | ok | depth 1 | 1\n5 transaction 0 | ok | depth 2 | 2\n6 batch 0 | ok | depth 2 | 3\n7 batch 0 | error DatabaseError Unknown 5 | depth 2 | 4\n8 end 0 | error DatabaseError Unknown 5 | depth 1 | 5\n9 batch 0 | ok | depth 1 | 6\n10 end 0 | ok | none | 7\nserver 0 1\nwrite INSERT c\ndone 8 1\n";
+    assert!(rt; is_reported(rt.alloc(), script, report)?);
+    Ok(())
+}
+
+#[test]
+fn a_block_on_a_connection_that_is_not_out_is_skipped(rt: HostRuntime) -> Result<(), Fail> {
+    let script =
+        b"session sqlite 1 nop nocheck\ntransaction 7 plain\nbatch 7 INSERT a\ntransaction 7 test\nfail 7\nend 7\nget\n";
+    let report =
+        b"2 transaction 7 | notout | - | -\n3 batch 7 | skipped | - | -\n4 transaction 7 | skipped | - | -\n5 fail 7 | skipped | - | -\n6 end 7 | skipped | - | -\n7 get 0 | ok | none | 0\nserver 0 0\ndone 6 1\n";
+    assert!(rt; is_reported(rt.alloc(), script, report)?);
+    Ok(())
+}
+
+#[test]
+fn a_test_is_ok_though_its_rollback_is_refused(rt: HostRuntime) -> Result<(), Fail> {
+    let script =
+        b"session sqlite 1 nop nocheck\nrefuse 0 3 5 - stay\nget\ntransaction 0 test\nbatch 0 INSERT a\nend 0\nput 0\n";
+    let report =
+        b"3 get 0 | ok | none | 0\n4 transaction 0 | ok | depth 1 | 1\n5 batch 0 | ok | depth 1 | 2\n6 end 0 | ok | broken | 3\n7 put 0 | closed | broken | 3\nserver 0 0\ndone 5 1\n";
+    assert!(rt; is_reported(rt.alloc(), script, report)?);
+    Ok(())
+}
+
+#[test]
+fn a_pool_keeps_the_transaction_of_a_test(rt: HostRuntime) -> Result<(), Fail> {
+    let script =
+        b"session sqlite 1 nop nocheck\nget\ntestbegin 0\nbatch 0 INSERT a\nput 0\nget\ntestbegin 0\nrollback 0\nput 0\n";
+    let report =
+        b"2 get 0 | ok | none | 0\n3 testbegin 0 | ok | depth 1 test | 1\n4 batch 0 | ok | depth 1 test | 2\n5 put 0 | kept | depth 1 test | 2\n6 get 0 | ok | depth 1 test | 2\n7 testbegin 0 | error AlreadyInTransaction | depth 1 test | 2\n8 rollback 0 | ok | none | 3\n9 put 0 | kept | none | 3\nserver 0 0\ndone 8 1\n";
+    assert!(rt; is_reported(rt.alloc(), script, report)?);
+    Ok(())
+}

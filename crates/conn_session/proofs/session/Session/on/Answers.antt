@@ -1,47 +1,16 @@
-use Rattle.std.proofs.Common.{◌≡◌, ap, sym, subst, ◌∙◌, arith, Ok, Some, None}
-use Rattle.std.specs.Option.{option_map}
-use Rattle.conn_reading.specs.Seats.{at_number, entry_without}
-use Rattle.conn_report.specs.declared.entry.Reply.TheVariants as replies
-use Rattle.conn_script.specs.declared.command.Word.{Word}
+use Rattle.std.proofs.Common.{List, sym, subst, Ok}
+use Rattle.conn_reading.specs.declared.blocks.Block.{Block}
 use Rattle.conn_script.specs.declared.request.Request.TheVariants.{On}
 use Rattle.conn_session.specs.Steps.{Steps}
-use Rattle.conn_session.specs.Worlds.{Pool, view_of, pool_of, world_of}
-use Rattle.conn_session.proofs.Deeds.{on_absent, on_place, on_left, honest_place}
-use Rattle.conn_session.proofs.Shown.{place-at, pool-with_item}
-use Rattle.conn_session.proofs.Numbers.{at_number-map, at_number-past}
-use Rattle.conn_session.proofs.session.Session.on.Goals.{then-place-len+in_default, else-place-len}
+use Rattle.conn_session.specs.Worlds.{world_of}
+use Rattle.conn_session.proofs.Verbs.{told_step}
 use Rattle.conn_session.proofs.session.Session.on.Goals as goal
-
-pub returns-in-Some : goal.returns-in-Some
-returns-in-Some g c =
-    let seen = g.S.Server.seen in
-    let honest = g.K.Connector.is_honest in
-    let k = g.K.Connector.held c.args.connector.now in
-    let w = world_of seen c.args.self.now k in
-    let out = c.args.self.now.out in
-    let there = place-at (view_of seen) c.args.n out.items c.index_mut.result.now (omega (arith, out.ok.0, c.len.ensures, c.if-place-len.true)) c.index_mut.ensures.value in
-    subst (λ (p : Pool). Steps honest c.args.line (On c.args.n c.args.deed.now) w (record { pool = p; connector = k }) c.in-Some.result) (sym (pool-with_item seen c.args.self.now c.args.n c.act_in.new.place))
-    (on_place honest g.S.Server.is_honest g.met.K.Connector.opens_honest c.args.line c.args.n c.args.deed.now w (option_map (view_of seen) c.index_mut.result.now) (option_map (view_of seen) c.act_in.new.place) c.in-Some.result there c.in-Some.ensures
-    (λ h. honest_place seen (g.met.S.Server.honesty (g.met.K.Connector.opens_honest h)) c.act_in.new.place) c.requires)
 
 pub returns : goal.returns
 returns g c =
-    let seen = g.S.Server.seen in
     let honest = g.K.Connector.is_honest in
     let k = g.K.Connector.held c.args.connector.now in
-    let w = world_of seen c.args.self.now k in
-    let out = c.args.self.now.out in
-    let n = c.args.n in
-    let left : (at_number n w.pool.out ≡ None) × (pool_of seen c.if-place-len.self ≡ w.pool) = elim c.if-place-len.branch [
-      | then-place-len+in_default b ↦ (
-          let there = place-at (view_of seen) n out.items b.index_mut.result.now (omega (arith, out.ok.0, c.len.ensures, b.if-place-len.true)) b.index_mut.ensures.value in
-          let same = on_left honest g.S.Server.is_honest g.met.K.Connector.opens_honest c.args.line n c.args.deed.now w (option_map (view_of seen) b.index_mut.result.now) (option_map (view_of seen) b.act_in.new.place) there b.in_default.ensures in
-          (same.0, ap (pool_of seen) b.self-is ∙ pool-with_item seen c.args.self.now n b.act_in.new.place ∙ same.1))
-      | else-place-len b ↦ (
-        at_number-map (view_of seen) n out.items ∙ ap (option_map (view_of seen)) (at_number-past n out.items (omega (arith, out.ok.0, c.len.ensures, b.if-place-len.false))),
-        ap (pool_of seen) b.self-is,
-      )
-    ] in
-    subst (λ (p : Pool). Steps honest c.args.line (On n c.args.deed.now) w (record { pool = p; connector = k }) (Ok c.entry_without.result)) (sym left.1)
-    (on_absent honest g.S.Server.is_honest g.met.K.Connector.opens_honest c.args.line n c.args.deed.now w c.entry_without.result left.0
-    (c.entry_without.ensures ∙ ap (λ (x : Word). entry_without c.args.line x (Some n) replies.NotOut) c.word.ensures) c.requires)
+    let w = world_of g.S.Server.seen c.args.self.now k in
+    let mid = world_of g.S.Server.seen c.do_or_skip.new.self k in
+    subst (λ (blocks : List Block). Steps honest c.args.line (On c.args.n c.args.verb.now) w (record mid { pool = record mid.pool { blocks = blocks } }) (Ok c.in_ok-entry.entry)) (sym c.in_ok-follow.ensures.after)
+    (told_step honest c.args.line c.args.n c.args.verb.now w mid c.in_ok-entry.entry c.in_ok-entry.ensures)

@@ -1,0 +1,16 @@
+//! What is done on a connection.
+use conn_model::LentText;
+use conn_result::QueryResult;
+use conn_script::BlockKind;
+
+/// What a command does on its connection, by the blocks that are open.
+#[derive(Debug, Drop)]
+pub enum Deed<'a> {
+    Batch(LentText<'a>),
+    Begin,
+    Commit,
+    Rollback,
+    TestBegin,
+    /// A block closes: what its closure would have answered decides how.
+    Close(BlockKind, QueryResult<()>),
+}
