@@ -1,0 +1,3 @@
+//! What is of MySQL alone.
+
+pub mod connection;
