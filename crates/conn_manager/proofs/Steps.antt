@@ -8,10 +8,11 @@ use Rattle.conn_model.specs.Seen.{Seen}
 use Rattle.conn_model.specs.declared.item.Dialect.{Dialect}
 use Rattle.conn_model.proofs.Mapped.{tells_map}
 use Rattle.conn_model.proofs.Telling.{stops_telling, tells_first, tells_in_room}
-use Rattle.conn_manager.specs.Manages.{Done, done, Reply, ask_text, send_process, begin_process, begin_test_process, with_test_mark, with_test_mark_in}
+use Rattle.conn_manager.specs.Manages.{Done, done, Reply, ask_text, own_process, send_process, begin_by, begun, begin_process, begin_test_process, with_test_mark, with_test_mark_in}
 use Rattle.conn_manager.specs.Statuses.{Status, valid}
 use Rattle.conn_manager.specs.Views.{View, with_event, TellsFrom, TellsOrMemoryFrom, ActsOrMemoryFrom}
-use Rattle.conn_manager.proofs.Asks.{asks_on}
+use Rattle.conn_model.specs.Nuls.{nul_place, nul_fault}
+use Rattle.conn_manager.proofs.Asks.{asks_on, sends_own, try_mapped}
 
 module _ (honest : Bool) where
   -- the process goes by another name at the status at entry
@@ -35,8 +36,8 @@ module _ (honest : Bool) where
       tells_in_room honest (p old.seen.dialect old.status) old.seen mid.seen new.seen old.heeded new.heeded (done reply new.status) keeps
       (subst (λ (x : Dialect). Tells honest (p x old.status) mid.seen new.seen old.heeded new.heeded (done reply new.status)) d here)
 
-  -- a text, and then the rest by its answer
-  pub text_first : (text words : List ℕ) (next : Dialect → Reply → Status → Process Done) (r : Reply) (old mid new : View) (reply : Reply) → text ≡ words → TellsFrom honest (λ d. send_process d text) old mid r
+  -- a text without NUL, and then the rest by its answer
+  pub text_first : (text words : List ℕ) (next : Dialect → Reply → Status → Process Done) (r : Reply) (old mid new : View) (reply : Reply) → text ≡ words → TellsFrom honest (λ d. own_process d text) old mid r
       → TellsFrom honest (λ d. next d r) mid new reply → TellsFrom honest (λ d s. ask_text d words s (next d)) old new reply
   text_first text words next r old mid new reply same first rest =
       let d = old.seen.dialect in
@@ -62,6 +63,17 @@ module _ (honest : Bool) where
       let whole : Tells honest q old.seen mid.seen old.heeded mid.heeded a = subst (λ (x : Done). Tells honest q old.seen mid.seen old.heeded mid.heeded x) e (tells_map f honest (p old.seen.dialect old.status) old.seen mid.seen old.heeded mid.heeded (done r mid.status) tells) in
       let here : TellsFrom honest (λ d s. map_process f (p d s)) old (record mid { status = a.status }) reply = subst (λ (x : Reply). Tells honest q old.seen mid.seen old.heeded mid.heeded (done x a.status)) (sym answers) whole in
       subst (λ (v : View). TellsFrom honest (λ d s. map_process f (p d s)) old v reply) (sym set) here
+
+  -- a text without NUL is sent
+  pub own_sent : (text : List ℕ) (old new : View) (reply : Reply) → nul_place text ≡ None → TellsFrom honest (λ d. send_process d text) old new reply → TellsFrom honest (λ d. own_process d text) old new reply
+  own_sent text old new reply none tells = sends_own honest old.seen.dialect text old.status old.seen new.seen old.heeded new.heeded (done reply new.status) none tells
+
+  -- a text of one's own that begins, and then the status that it makes
+  pub begun_by : (text : List ℕ) (r : Reply) (s : Status) (a : Done) (old mid new : View) (reply : Reply) → TellsFrom honest (λ d. send_process d text) old mid r → a ≡ begun r s → s ≡ mid.status → reply ≡ a.reply → new ≡ record mid { status = a.status }
+      → TellsFrom honest (λ d. begin_by d text) old new reply
+  begun_by text r s a old mid new reply tells is_made is answers set =
+      goes_as (λ d s1. map_process (λ (x : Done). begun x.reply x.status) (send_process d text s1)) (λ d. begin_by d text) old.status old new reply refl (λ d. try_mapped begun (nul_fault d text) d text old.status)
+      (made (λ (x : Done). begun x.reply x.status) (λ d. send_process d text) r s a old mid new reply tells is_made is answers set)
 
   -- a begin without a depth, and then the mark
   pub begins_test : (r : Reply) (s : Status) (a : Done) (old mid new : View) (reply : Reply) → old.status ≡ valid None → TellsOrMemoryFrom honest begin_process old mid r → a ≡ with_test_mark_in r s → s ≡ mid.status → reply ≡ a.reply → new ≡ record mid { status = a.status }

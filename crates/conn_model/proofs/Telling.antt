@@ -1,11 +1,10 @@
 -- A call that tells events acts, and what it tells is appended.
-use Rattle.std.proofs.Common.{◌≡◌, ℕ, ◌≤◌, Bool, true, List, [], ◌∷◌, ◌++◌, refl, ap, subst, sym, ◌∙◌, Option, Some, None, append_assoc, append-nil}
-use Rattle.conn_model.specs.Acts.{Acts, AreCounted, EndsTelling, IsSameServer, Tells, sent_after}
+use Rattle.std.proofs.Common.{◌≡◌, ℕ, ◌≤◌, Bool, true, List, [], ◌∷◌, ◌++◌, refl, ap, subst, sym, ◌∙◌, Some, None, append_assoc, append-nil}
+use Rattle.conn_model.specs.Acts.{Acts, AreCounted, EndsTelling, Tells, sent_after}
 use Rattle.conn_model.specs.Events.{Event, Heeded, with_events}
 use Rattle.conn_model.specs.Process.{Process, Stop, Ask, Tell, Heard, Sent, IsAsked, TellsIf, logged, IsTold, events_of}
 use Rattle.conn_model.specs.Seen.{Seen}
 use Rattle.conn_model.specs.declared.item.Call.{Call}
-use Rattle.conn_model.specs.declared.item.Told.{Told}
 use Rattle.conn_model.proofs.Goes.{stops, HasSent, joined, told_then}
 
 -- nothing more was told

@@ -1,13 +1,15 @@
 -- What a command asks of a connection is a call of it.
-use Rattle.std.proofs.Common.{◌≡◌, List, ◌++◌, refl, sym, ap, subst, ◌∙◌, Option, Some, None, Ok, Err}
+use Rattle.std.proofs.Common.{◌≡◌, true, ℕ, List, ◌++◌, refl, sym, ap, subst, ◌∙◌, Option, Some, None, Ok, Err}
 use Rattle.std.specs.Prelude.{⊤}
 use Rattle.conn_result.specs.declared.error.Error.{Error}
 use Rattle.conn_model.specs.Armed.{Armed}
-use Rattle.conn_model.specs.Process.{Process, map_process}
+use Rattle.conn_model.specs.Classes.{class}
+use Rattle.conn_model.specs.Nuls.{nul_fault}
+use Rattle.conn_model.specs.Process.{Process, Stop, map_process}
 use Rattle.conn_model.specs.States.{State}
 use Rattle.conn_model.specs.declared.item.Dialect.{Dialect}
 use Rattle.conn_model.specs.declared.item.Item.{Item}
-use Rattle.conn_manager.specs.Manages.{Done, Reply as Answer, send_process}
+use Rattle.conn_manager.specs.Manages.{Done, done, Reply as Answer, send_process, try_text}
 use Rattle.conn_manager.specs.Statuses.{Status}
 use Rattle.conn_report.specs.declared.entry.Reply.{Reply}
 use Rattle.conn_script.specs.Requests.{verb_word}
@@ -17,9 +19,11 @@ use Rattle.conn_script.specs.declared.request.Verb.TheVariants as verbs
 use Rattle.conn_reading.specs.Asking.{Outcome, told_as, reply_as, process_of}
 use Rattle.conn_reading.specs.Blocks.{plain_deed, if_live, closing, deed_in, deed_of}
 use Rattle.conn_reading.specs.Folds.{Stack, Kind, Begins, Commits, Rolls, Closes, Sends, after_reply, kind_of, KeepsLive}
-use Rattle.conn_reading.specs.Histories.{Operation, Begin, Commit, Rollback, TestBegin, Close, Asks, IsOperation, operation_process}
+use Rattle.conn_reading.specs.Histories.{Operation, Begin, Commit, Rollback, TestBegin, Close, Asks, IsOperation, left_status, operation_process}
+use Rattle.conn_reading.specs.Plainly.{Plainly}
 use Rattle.conn_reading.specs.Reading.{Read, read, Reads}
 use Rattle.conn_reading.specs.Sessions.{deed_kind, after_kind, KindLive, IsClean, SendsPlain}
+use Rattle.conn_reading.specs.Verdicts.{is_plain}
 use Rattle.conn_reading.specs.declared.blocks.Block.{Block}
 use Rattle.conn_reading.specs.declared.blocks.BlockState.{BlockState}
 use Rattle.conn_reading.specs.declared.blocks.BlockState.TheVariants.{Live, Refused, Dead}
@@ -51,8 +55,13 @@ abbrev pub IsPlainDeed : Option Deed → Type 0
 IsPlainDeed None = ⊤
 IsPlainDeed (Some deed) = IsOperation (operation_of deed)
 
+-- a plain text is sent plainly, or not at all
+text_plainly : (d : Dialect) (text : List ℕ) (place : Option ℕ) (S : Status) → is_plain (class text) ≡ true → Plainly d left_status S (try_text place d text S (λ r s1. Stop (done r s1)))
+text_plainly d text None S plain = (plain, λ h. refl)
+text_plainly d text (Some place) S plain = refl
+
 plain_deed_plain : (verb : Verb) → SendsPlain verb → IsPlainDeed (plain_deed verb)
-plain_deed_plain (verbs.Batch text) plain = λ d S. (plain, λ h. refl)
+plain_deed_plain (verbs.Batch text) plain = λ d S. text_plainly d text (nul_fault d text) S plain
 plain_deed_plain verbs.Begin plain = tt
 plain_deed_plain verbs.Commit plain = tt
 plain_deed_plain verbs.Rollback plain = tt

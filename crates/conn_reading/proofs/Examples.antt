@@ -18,7 +18,7 @@ use Rattle.conn_manager.specs.declared.status.TransactionManagerStatus.TheVarian
 use Rattle.conn_reading.specs.Folds.{alone, fold_of, FoldPremises}
 use Rattle.conn_reading.specs.Histories.{Operation, Begin, Commit, Rollback, Asks, Step, step_items, IsHistory}
 use Rattle.conn_reading.specs.Reading.{Beside}
-use Rattle.conn_reading.proofs.OnSqlite.{lawful_meets}
+use Rattle.conn_reading.proofs.Premises.{lawful_meets}
 
 abbrev item : List ℕ → Answer → Item
 item text answer = record { call = Exec; text = text; answer = answer }
@@ -121,7 +121,7 @@ nested_meets : FoldPremises Sqlite nested
 unfolding class is_begin is_built is_write same_text begins number_behind digits
 nested_meets = record {
   none_refused = refl;
-  none_in_idle = (lawful_meets (Idle []) (Idle a_alone) (step_items nested) refl).0;
+  none_in_idle = (lawful_meets Sqlite (Idle []) (Idle a_alone) (step_items nested) refl).0 refl;
   live = (tt, (tt, (tt, (tt, (tt, (not_live, tt))))));
 }
 

@@ -1,5 +1,5 @@
 -- Each call of the manager keeps the stack of the fold, where none of its texts is refused.
-use Rattle.std.proofs.Common.{◌≡◌, ℕ, ◌+◌, ◌-◌, ◌<◌, Bool, true, false, ◌||◌, ◌&&◌, if◌then◌else◌, nat_lt, List, [], ◌∷◌, codes, refl, sym, ap, ◌∙◌, subst, Some, None, Ok, Err, arith}
+use Rattle.std.proofs.Common.{◌≡◌, ℕ, ◌+◌, ◌-◌, ◌<◌, Bool, true, false, ◌||◌, ◌&&◌, if◌then◌else◌, nat_lt, List, [], ◌∷◌, codes, refl, sym, ap, ◌∙◌, subst, Option, Some, None, Ok, Err, arith}
 use Rattle.std.specs.Bool.{⊤}
 use Rattle.std.specs.List.{list_any}
 use Rattle.std.proofs.lemmas.Bool.Decides.{nat_tests}
@@ -7,6 +7,7 @@ use Rattle.conn_result.specs.declared.error.Error.TheVariants.{DepthExhausted}
 use Rattle.conn_model.specs.Classes.{class}
 use Rattle.conn_model.proofs.Names.{class-begin, class-savepoint}
 use Rattle.conn_model.specs.Events.{BeginTransaction}
+use Rattle.conn_model.specs.Nuls.{nul_fault}
 use Rattle.conn_model.specs.Process.{Process, Stop, Tell, refusal_of}
 use Rattle.conn_model.specs.States.{State, Idle, Open, Lost, step_by, told_of, accepts}
 use Rattle.conn_model.specs.declared.class.Class.{Class}
@@ -17,7 +18,7 @@ use Rattle.conn_model.specs.declared.item.Call.{Call}
 use Rattle.conn_model.specs.declared.item.Call.TheVariants.{Exec}
 use Rattle.conn_model.specs.declared.item.Dialect.{Dialect}
 use Rattle.conn_model.specs.declared.item.Item.{Item}
-use Rattle.conn_manager.specs.Manages.{Done, done, Reply, ask_text, begun, begin_with, begin_in, begin_process, begin_sql_process, begin_sql_in, savepoint_text, lowered, rollback_text, commit_text, rolled_back, rollback_in, rollback_process, committed, commit_in, commit_process}
+use Rattle.conn_manager.specs.Manages.{Done, done, Reply, ask_text, begun, begin_with, begin_in, begin_process, begin_sql_process, begin_sql_in, try_text, savepoint_text, lowered, rollback_text, commit_text, rolled_back, rollback_in, rollback_process, committed, commit_in, commit_process}
 use Rattle.conn_manager.specs.Statuses.{Status, valid, retold, no_depth, at_depth, reply_of}
 use Rattle.conn_manager.specs.declared.status.InTransactionStatus.{InTransactionStatus}
 use Rattle.conn_manager.specs.declared.status.TransactionManagerStatus.TheVariants.{Valid, InError}
@@ -144,7 +145,7 @@ pub begin_sql_folds : (d : Dialect) (S : Status) (s : State) (p : Part) (by : Li
 begin_sql_folds d InError s p by items a s' k opens h n reads none = let e = stopped d s _ items a s' reads in rw (e.0, e.1, e.2) n
 begin_sql_folds d (Valid v) s p by items a s' k opens h n reads none =
     elim v.in_transaction as (λ o. Holds d (valid o) s p → Nested (valid o) s k → Reads d s (begin_sql_in d by (valid o) o) items a s' → Nested a.status s' (after_reply Begins a.reply (after_items items k))) [
-      | None ↦ (λ g m r. first g m r)
+      | None ↦ (λ g m r. tried (nul_fault d by) g m r)
       | Some t ↦ (λ g m r. let e = stopped d s _ items a s' r in rw (e.0, e.1, e.2) m)
     ] h n reads
   where
@@ -153,6 +154,10 @@ begin_sql_folds d (Valid v) s p by items a s' k opens h n reads none =
         let c : is_transaction_class (class by) ≡ true = ap is_transaction_class opens in
         let t = takes d s no_depth by (λ r s1. Stop (begun r s1)) (begun (Ok tt)) items a s' (λ S1. refl) c none r in
         begun_entry d s by no_depth items a s' k c t (begin_nests d s s' k by opens g.status m t.is)
+
+    tried : (place : Option ℕ) → Holds d no_depth s p → Nested no_depth s k → Reads d s (try_text place d by no_depth (λ r s1. Stop (begun r s1))) items a s' → Nested a.status s' (after_reply Begins a.reply (after_items items k))
+    tried None g m r = first g m r
+    tried (Some place) g m r = let e = stopped d s _ items a s' r in rw (e.0, e.1, e.2) m
 
 -- ---- what ends
 

@@ -26,12 +26,16 @@ pub mod PlainScripts
 pub mod Tracks
 pub mod Deeds
 pub mod SessionKept
+pub mod Opening
+pub mod SessionCalls
 pub mod SessionMoves
+pub mod SessionOpens
 pub mod SessionNests
 pub mod SessionSlots
 pub mod SessionRuns
 pub mod SessionLaws
-pub mod OnSqlite
+pub mod Premises
 pub mod Examples
 pub mod SessionExamples
+pub mod SetupExamples
 pub mod LookExamples

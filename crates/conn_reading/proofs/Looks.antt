@@ -1,10 +1,11 @@
 -- Processes that ask rows only after an item, and once.
-use Rattle.std.proofs.Common.{◌≡◌, ℕ, Bool, true, false, Option, Some, None, Ok, Err}
+use Rattle.std.proofs.Common.{◌≡◌, ℕ, Bool, true, false, List, Option, Some, None, Ok, Err}
 use Rattle.std.specs.Prelude.{⊤, nat_lt, if◌then◌else◌}
 use Rattle.conn_result.specs.declared.error.Error.{Error}
+use Rattle.conn_model.specs.Nuls.{nul_fault}
 use Rattle.conn_model.specs.Process.{Process, Stop, Ask, Look, Tell, Heard, map_process}
 use Rattle.conn_model.specs.declared.item.Dialect.{Dialect}
-use Rattle.conn_manager.specs.Manages.{Reply, begin_process, begin_in, with_test_mark, begin_test_in, begin_test_process, commit_process, commit_in, rollback_process, rollback_in, committed, uncommitted, uncommitted_in, rolls_back, send_process}
+use Rattle.conn_manager.specs.Manages.{Reply, begin_process, begin_in, with_test_mark, begin_test_in, begin_test_process, commit_process, commit_in, rollback_process, rollback_in, committed, uncommitted, uncommitted_in, rolls_back, send_process, try_text, done}
 use Rattle.conn_manager.specs.Statuses.{Status, retold, reply_of}
 use Rattle.conn_manager.specs.declared.status.InTransactionStatus.{InTransactionStatus}
 use Rattle.conn_manager.specs.declared.status.TransactionManagerStatus.TheVariants.{Valid, InError}
@@ -83,11 +84,17 @@ closings_look Plain (Ok u) d s = commits_look d s
 closings_look Plain (Err e) d s = looks_map (with_answer (rollback_answer e)) false (rollback_process d s) (rollbacks_look d s)
 closings_look Test answer d s = looks_map (with_answer (λ _. answer)) false (rollback_process d s) (rollbacks_look d s)
 
+-- ---- a text
+
+text_looks : (d : Dialect) (text : List ℕ) (place : Option ℕ) (s : Status) → LooksWell false (try_text place d text s (λ r s1. Stop (done r s1)))
+text_looks d text None s = λ h. tt
+text_looks d text (Some place) s = tt
+
 -- ---- all commands
 
 -- a command on a connection looks at rows only after a run
 pub command_looks : (d : Dialect) (deed : Deed) (s : Status) → LooksWell false (process_of d deed s)
-command_looks d (deeds.Batch text) s = looks_map told_as false (send_process d text s) (λ h. tt)
+command_looks d (deeds.Batch text) s = looks_map told_as false (send_process d text s) (text_looks d text (nul_fault d text) s)
 command_looks d deeds.Begin s = looks_map told_as false (begin_process d s) (begins_look d s)
 command_looks d deeds.Commit s = looks_map told_as false (commit_process d s) (commits_look d s)
 command_looks d deeds.Rollback s = looks_map told_as false (rollback_process d s) (rollbacks_look d s)

@@ -9,8 +9,9 @@ use Rattle.std.proofs.lemmas.Slice.Eq.{bytes_eq-Decides}
 use Rattle.conn_model.specs.Classes.{class, begins, is_begin, is_built, is_write, same_text, number_behind}
 use Rattle.conn_model.specs.Numbers.{number}
 use Rattle.conn_script.specs.Drafts.{Draft, empty_draft, command_added, with_command, with_refused, can_close, if_closable}
-use Rattle.conn_script.specs.Grammar.{connection_alone, kind_named, act_from, act_of, with_words, with_text, next, lines_of, judged_last, or_bad, judged, script_of}
+use Rattle.conn_script.specs.Grammar.{connection_alone, block_named, act_from, act_of, with_words, with_text, next, lines_of, judged_last, or_bad, judged, script_of}
 use Rattle.conn_script.specs.Options.{◌>>=◌, guard}
+use Rattle.conn_script.specs.Fields.{session_dialect}
 use Rattle.conn_script.specs.Plans.{refused_of}
 use Rattle.conn_script.specs.Requests.{request_of}
 use Rattle.conn_script.specs.Spelling.{word_named}
@@ -125,7 +126,7 @@ act_plain words.Commit rest = there_map ActPlain (connection_alone rest) acts.Co
 act_plain words.Rollback rest = there_map ActPlain (connection_alone rest) acts.Rollback (λ n. tt)
 act_plain words.TestBegin rest = there_map ActPlain (connection_alone rest) acts.TestBegin (λ n. tt)
 act_plain words.Transaction rest =
-    there_bind ActPlain rest _ (λ text. there_bind ActPlain (number 4294967296 (split_at 32 text).0) _ (λ c. there_bind ActPlain ((split_at 32 text).1 >>= kind_named) _ (λ kind. tt)))
+    there_bind ActPlain rest _ (λ text. there_bind ActPlain (number 4294967296 (split_at 32 text).0) _ (λ c. there_bind ActPlain ((split_at 32 text).1 >>= block_named) _ (λ kind. tt)))
 act_plain words.End rest = there_map ActPlain (connection_alone rest) acts.End (λ n. tt)
 act_plain words.Fail rest = there_map ActPlain (connection_alone rest) acts.Fail (λ n. tt)
 
@@ -140,8 +141,8 @@ DraftPlain d = AllPlain d.script.commands
 words_plain : (n : ℕ) (d : Draft) (line : List ℕ × Option (List ℕ)) → DraftPlain d → IfThere DraftPlain (with_words n d line)
 words_plain n d line h = by_word (bytes_eq line.0 (codes "refuse"))
   where
-    by_word : (b : Bool) → IfThere DraftPlain (if b then (refused_of line.1 >>= with_refused d) else (act_of line.0 line.1 >>= with_command n d))
-    by_word true = there_bind DraftPlain (refused_of line.1) (with_refused d) (λ r. there_guard DraftPlain _ _ (λ e. h))
+    by_word : (b : Bool) → IfThere DraftPlain (if b then (refused_of d.script.dialect line.1 >>= with_refused d) else (act_of line.0 line.1 >>= with_command n d))
+    by_word true = there_bind DraftPlain (refused_of d.script.dialect line.1) (with_refused d) (λ r. there_guard DraftPlain _ _ (λ e. h))
     by_word false = there_bind_if ActPlain DraftPlain (act_of line.0 line.1) (with_command n d) (there_bind ActPlain (word_named line.0) (λ word. act_from word line.1) (λ word. act_plain word line.1))
         (λ act g. there_guard DraftPlain _ (command_added n d act) (λ e. plain-append d.script.commands (record { line = n; act = act } ∷ []) h (g, tt)))
 
@@ -149,7 +150,7 @@ text_plain : (n : ℕ) (d : Draft) (line : List ℕ) → DraftPlain d → IfTher
 text_plain n d line h = there_bind_if DraftPlain DraftPlain (with_words n d (split_at 32 line)) if_closable (words_plain n d (split_at 32 line) h) (λ e g. there_guard DraftPlain (can_close e) e (λ c. g))
 
 next_plain : (n : ℕ) (o : Option Draft) (line : List ℕ) → IfThere DraftPlain o → IfThere DraftPlain (next n o line)
-next_plain n None line h = there_guard DraftPlain (bytes_eq line (codes "session sqlite 1 nop nocheck")) empty_draft (λ e. tt)
+next_plain n None line h = there_map DraftPlain (session_dialect line) empty_draft (λ d. tt)
 next_plain n (Some d) line h =
     elim (is_utf8 line) as (λ b. IfThere DraftPlain (if b then with_text n d line else None)) [
       | true ↦ text_plain n d line h

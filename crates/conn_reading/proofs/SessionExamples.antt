@@ -18,11 +18,11 @@ use Rattle.conn_script.specs.declared.command.Word.TheVariants as words
 use Rattle.conn_reading.specs.Answered.{ServerLogs, answered}
 use Rattle.conn_reading.specs.Seats.{make_entry}
 use Rattle.conn_reading.specs.Sessions.{AllPlain, is_opened, unfolded, fold_entries, EntryPremises}
-use Rattle.conn_reading.proofs.OnSqlite.{lawful_premises}
+use Rattle.conn_reading.proofs.Premises.{lawful_premises}
 
 -- begin, write a, commit
 abbrev the_script : Script
-the_script = record empty_script {
+the_script = record (empty_script Sqlite) {
   commands =
       record { line = 2; act = acts.Get }
       ∷ record { line = 3; act = acts.Begin 0 }
@@ -71,4 +71,4 @@ the_fold = refl
 
 they_meet : EntryPremises Sqlite 0 the_log the_script.commands the_entries
 unfolding class is_begin is_built is_write same_text begins number_behind digits
-they_meet = lawful_premises Sqlite 0 the_log the_script.commands the_entries (Idle (codes "INSERT a" ∷ [])) refl refl refl
+they_meet = lawful_premises Sqlite 0 the_log the_script.commands the_entries (Idle (codes "INSERT a" ∷ [])) refl refl tt

@@ -9,7 +9,7 @@ use Rattle.conn_report.specs.declared.entry.Reply.{Reply}
 use Rattle.conn_script.specs.declared.command.Word.{Word}
 use Rattle.conn_reading.specs.Answered.{ServerLogs, Progress, Taken}
 use Rattle.conn_reading.specs.Folds.{alone, AllKeepLive}
-use Rattle.conn_reading.specs.Histories.{step_items}
+use Rattle.conn_reading.specs.Histories.{step_items, StartsSetUp}
 use Rattle.conn_reading.specs.Seats.{Seat, at_number}
 use Rattle.conn_reading.specs.Sessions.{Each, IsClean, Folded, mark_of, after_mark, MarkLive}
 use Rattle.conn_reading.specs.declared.blocks.Block.{Block}
@@ -27,6 +27,7 @@ pub record SeatIs (t : Track) (seat : Seat) : Type 0 where
   pub status : t.status ≡ seat.status
   pub state : t.state ≡ seat.state
   pub mark : length (step_items t.steps) ≡ seat.mark
+  pub sets_up : StartsSetUp t.steps
 
 abbrev pub SeatOf : Tracks → Seat → Type 0
 SeatOf tracks seat = SeatIs (tracks seat.number) seat
@@ -53,12 +54,13 @@ pub record Keeps (d : Dialect) (logs left : ServerLogs) (tracks : Tracks) (slots
 abbrev pub ProgressKeeps : Dialect → ServerLogs → ServerLogs → Tracks → Progress → Type 0
 ProgressKeeps d logs left tracks p = Keeps d logs left tracks (held p.context.slots) p.context.out p.context.opened
 
--- a history ends with the status, and has read the log up to the mark
+-- a history begins with a setup, ends with the status, and has read the log up to the mark
 pub record EndsWith (d : Dialect) (log : List Item) (S : Status) (mark : ℕ) (t : Track) : Type 0 where
   pub left : List Item
   pub tracked : IsTrack d log left t
   pub status : t.status ≡ S
   pub mark_is : length (step_items t.steps) ≡ mark
+  pub sets_up : StartsSetUp t.steps
 
 -- a status comes with a connection and a mark, and is where that connection's history ends
 abbrev pub IsAt : Dialect → ServerLogs → Tracks → Option ℕ → Option Status → Option ℕ → Type 0
@@ -128,7 +130,7 @@ pub says_still : (d : Dialect) (logs left : ServerLogs) (tracks : Tracks) (opene
     → IsClean word reply (Some seat.status) → seat.number < opened
     → EntrySays d logs tracks tracks opened blocks None (record { line = line; word = word; connection = Some seat.number; reply = reply; status = Some seat.status; mark = Some seat.mark })
 says_still d logs left tracks opened blocks line word reply seat tracked is clean low = record {
-  at = record { left = left seat.number; tracked = tracked seat.number; status = is.status; mark_is = is.mark };
+  at = record { left = left seat.number; tracked = tracked seat.number; status = is.status; mark_is = is.mark; sets_up = is.sets_up };
   clean = clean;
   folds = λ n. still_folds n seat.number seat.mark (logs n) reply (folded blocks (tracks n)) (λ e. sym is.mark ∙ ap (λ (k : ℕ). length (step_items (tracks k).steps)) e);
   live = λ n h l. l;

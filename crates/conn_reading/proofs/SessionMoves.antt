@@ -1,11 +1,10 @@
 -- A deed on a connection is one call more in its history.
-use Rattle.std.proofs.Common.{◌≡◌, ◌≢◌, ℕ, ◌+◌, ◌<◌, ◌≤◌, true, if◌then◌else◌, List, [], ◌++◌, length, length-append, length-set, Option, Some, None, refl, sym, ap, subst, ◌∙◌, arith, inl, inr}
-use Rattle.std.specs.Prelude.{◌==◌, slice_set, is_some}
+use Rattle.std.proofs.Common.{◌≡◌, ◌≢◌, ℕ, ◌+◌, ◌<◌, ◌≤◌, List, [], ◌∷◌, ◌++◌, length, length-append, length-set, Option, Some, None, refl, sym, ap, subst, ◌∙◌, arith, inl, inr}
+use Rattle.std.specs.Prelude.{slice_set}
 use Rattle.std.specs.Option.{option_map}
 use Rattle.std.proofs.lemmas.Bool.{cases_eq}
 use Rattle.conn_model.specs.States.{State}
 use Rattle.conn_model.specs.declared.item.Dialect.{Dialect}
-use Rattle.conn_model.specs.declared.item.Item.{Item}
 use Rattle.conn_manager.specs.Manages.{Done}
 use Rattle.conn_manager.specs.Statuses.{Status}
 use Rattle.conn_report.specs.declared.entry.Reply.{Reply}
@@ -16,80 +15,17 @@ use Rattle.conn_script.specs.declared.request.Verb.{Verb}
 use Rattle.conn_reading.specs.Answered.{ServerLogs, Progress, Taken, taken, with_left, seat_after, taken_on, not_out, reads_on, skip_entry, reads_deed, with_blocks}
 use Rattle.conn_reading.specs.Asking.{Outcome, process_of}
 use Rattle.conn_reading.specs.Blocks.{block_on, blocks_after, deed_of}
-use Rattle.conn_reading.specs.Folds.{Stack, alone, fold_of, after_reply, kind_of, KeepsLive, AllKeepLive}
-use Rattle.conn_reading.specs.Histories.{Operation, Step, step_items}
+use Rattle.conn_reading.specs.Histories.{Step, step_items, StartsSetUp}
 use Rattle.conn_reading.specs.Reading.{Read, read}
 use Rattle.conn_reading.specs.Seats.{Seat, entry_on, at_number}
-use Rattle.conn_reading.specs.Sessions.{SendsPlain, IsClean, deed_kind, after_kind, KindLive, mark_of, after_mark, between, MarkLive}
-use Rattle.conn_reading.specs.declared.blocks.Block.{Block}
+use Rattle.conn_reading.specs.Sessions.{SendsPlain, IsClean}
 use Rattle.conn_reading.specs.declared.deed.Deed.{Deed}
 use Rattle.conn_reading.proofs.ByNumber.{one_there, at_within, at-set, at-set_other}
 use Rattle.conn_reading.proofs.Deeds.{operation_of, IsPlainDeed, deed_plain, verb_clean, DeedReads, deed_reads}
 use Rattle.conn_reading.proofs.EachSeat.{held, count, each_other}
-use Rattle.conn_reading.proofs.SessionKept.{Tracks, SeatIs, SeatOf, IsAtNumber, Keeps, ProgressKeeps, EndsWith, EntrySays, TakenKeeps, says_nothing, says_still}
-use Rattle.conn_reading.proofs.Tracks.{Track, IsTrack, moved, moved_is, moved_count, folded, folded_at, fold-last, live-last, between_is}
-
--- ---- one number of many
-
-abbrev pub with_track : Tracks → ℕ → Track → Tracks
-with_track tracks n t k = if k == n then t else tracks k
-
-track_same : (tracks : Tracks) (n : ℕ) (t : Track) → with_track tracks n t n ≡ t
-track_same tracks n t = grind arith
-
-track_other : (tracks : Tracks) (n k : ℕ) (t : Track) → k ≢ n → with_track tracks n t k ≡ tracks k
-track_other tracks n k t h = grind arith
-
-left_same : (logs : ServerLogs) (n : ℕ) (rest : List Item) → with_left logs n rest n ≡ rest
-left_same logs n rest = grind arith
-
-left_other : (logs : ServerLogs) (n k : ℕ) (rest : List Item) → k ≢ n → with_left logs n rest k ≡ logs k
-left_other logs n k rest h = grind arith
-
-mark_same : (n m : ℕ) → mark_of n (Some n) (Some m) ≡ Some m
-mark_same n m = grind arith
-
-mark_other : (n c m : ℕ) → c ≢ n → mark_of n (Some c) (Some m) ≡ None
-mark_other n c m h = grind arith
-
--- ---- one call more
-
--- the deed and its reply do to the fold what the call does
-move_folds : (log left : List Item) (blocks : List Block) (t : Track) (deed : Deed) (operation : Operation) (reply : Reply) (used : List Item) (r : Read Done) (mark : ℕ)
-    → ((k : Stack) → after_kind (deed_kind deed) reply k ≡ after_reply (kind_of operation) r.value.reply k) → log ≡ step_items t.steps ++ (used ++ left) → mark ≡ length (step_items t.steps) + length used
-    → after_mark log (Some deed) reply (folded blocks t) (Some mark) ≡ folded blocks (moved t operation used r)
-move_folds log left blocks t deed operation reply used r mark stack all is =
-    let step : Step = record { operation = operation; items = used; answer = r.value } in
-    folded_at (folded blocks t) mark (length (step_items (moved t operation used r).steps)) _ (fold_of (moved t operation used r).steps (alone []))
-    (is ∙ sym (moved_count t operation used r))
-    (stack (between log (folded blocks t) mark) ∙ ap (λ (k : Stack). after_reply (kind_of operation) r.value.reply k) (between_is log used left blocks t mark all is) ∙ sym (fold-last t.steps step (alone [])))
-
-move_live : (log left : List Item) (blocks : List Block) (t : Track) (deed : Deed) (operation : Operation) (reply : Reply) (used : List Item) (r : Read Done) (mark : ℕ)
-    → ((k : Stack) → KindLive (deed_kind deed) reply k → KeepsLive (kind_of operation) r.value.reply k) → log ≡ step_items t.steps ++ (used ++ left) → mark ≡ length (step_items t.steps) + length used
-    → KindLive (deed_kind deed) reply (between log (folded blocks t) mark) → AllKeepLive t.steps (alone []) → AllKeepLive (moved t operation used r).steps (alone [])
-move_live log left blocks t deed operation reply used r mark lives all is live h =
-    let step : Step = record { operation = operation; items = used; answer = r.value } in
-    live-last t.steps step (alone []) h (subst (λ (k : Stack). KeepsLive (kind_of operation) r.value.reply k) (between_is log used left blocks t mark all is) (lives (between log (folded blocks t) mark) live))
-
-module _ (d : Dialect) (logs left : ServerLogs) (tracks : Tracks) (n : ℕ) (rest : List Item) (after : Track) where
-  -- the histories of the others stay
-  moves_tracked : ((k : ℕ) → IsTrack d (logs k) (left k) (tracks k)) → IsTrack d (logs n) rest after → (k : ℕ) → IsTrack d (logs k) (with_left left n rest k) (with_track tracks n after k)
-  moves_tracked h g k = elim (cases_eq k n) [
-    | inl same ↦ subst (λ (j : ℕ). IsTrack d (logs j) (with_left left n rest j) (with_track tracks n after j)) (sym same)
-        (subst (λ (l : List Item). IsTrack d (logs n) l (with_track tracks n after n)) (sym (left_same left n rest)) (subst (λ (t : Track). IsTrack d (logs n) rest t) (sym (track_same tracks n after)) g))
-    | inr apart ↦ subst (λ (l : List Item). IsTrack d (logs k) l (with_track tracks n after k)) (sym (left_other left n k rest apart)) (subst (λ (t : Track). IsTrack d (logs k) (left k) t) (sym (track_other tracks n k after apart)) (h k))
-  ]
-
-  moves_other : (seat : Seat) → seat.number ≢ n → SeatOf tracks seat → SeatOf (with_track tracks n after) seat
-  moves_other seat apart h = subst (λ (t : Track). SeatIs t seat) (sym (track_other tracks n seat.number after apart)) h
-
-  -- what is so of an entry without a mark, and of the one that moved, is so
-  moves_each : (P : ℕ → Option ℕ → Track → Type 0) (mark : ℕ) → ((k : ℕ) → P k None (tracks k)) → P n (Some mark) after → (k : ℕ) → P k (mark_of k (Some n) (Some mark)) (with_track tracks n after k)
-  moves_each P mark others this k = elim (cases_eq n k) [
-    | inl same ↦ subst (λ (j : ℕ). P j (mark_of j (Some n) (Some mark)) (with_track tracks n after j)) same
-        (subst (λ (o : Option ℕ). P n o (with_track tracks n after n)) (sym (mark_same n mark)) (subst (λ (t : Track). P n (Some mark) t) (sym (track_same tracks n after)) this))
-    | inr apart ↦ subst (λ (o : Option ℕ). P k o (with_track tracks n after k)) (sym (mark_other k n mark apart)) (subst (λ (t : Track). P k None t) (sym (track_other tracks n k after (λ e. apart (sym e)))) (others k))
-  ]
+use Rattle.conn_reading.proofs.SessionCalls.{CallReads, with_call, call_tracked, call_apart, call_other, call_seat, call_ends, call_says}
+use Rattle.conn_reading.proofs.SessionKept.{Tracks, SeatOf, IsAtNumber, Keeps, ProgressKeeps, EntrySays, TakenKeeps, says_nothing, says_still}
+use Rattle.conn_reading.proofs.Tracks.{set_up-last}
 
 -- ---- a deed on a connection that is there
 
@@ -123,32 +59,30 @@ module _ (d : Dialect) (logs left : ServerLogs) (tracks : Tracks) (p : Progress)
   abbrev m : ℕ
   m = seat.number
 
-  abbrev t : Track
-  t = tracks m
-
   abbrev out : List (Option Seat)
   out = p.context.out
 
   abbrev after : Seat
   after = seat_after seat (length (left m)) r
 
-  abbrev next : Track
-  next = moved t (operation_of deed) f.reads.used done_read
+  abbrev call : CallReads d (left m) (tracks m) (operation_of deed) done_read
+  call = record { is = plain; used = f.reads.used; all = f.reads.all; each = f.reads.each }
 
   abbrev moved_tracks : Tracks
-  moved_tracks = with_track tracks m next
+  moved_tracks = with_call d logs left tracks m (operation_of deed) done_read h.tracked call
 
-  all_read : logs m ≡ step_items t.steps ++ (f.reads.used ++ r.left)
-  all_read = (h.tracked m).all ∙ ap (λ (l : List Item). step_items t.steps ++ l) f.reads.all
-
-  count_read : after.mark ≡ length (step_items t.steps) + length f.reads.used
+  count_read : after.mark ≡ length (step_items (tracks m).steps) + length f.reads.used
   count_read = omega (arith, f.is.mark, ap length f.reads.all, length-append f.reads.used r.left)
 
-  next_is : IsTrack d (logs m) r.left next
-  next_is = moved_is d (operation_of deed) (logs m) (left m) t f.reads.used done_read f.reads.all f.reads.each plain (h.tracked m)
+  -- what was done, after those that stand in its history
+  abbrev last : Step
+  last = record { operation = operation_of deed; items = f.reads.used; answer = f.reads.answer }
+
+  sets_up : StartsSetUp ((tracks m).steps ++ last ∷ [])
+  sets_up = set_up-last (tracks m).steps last f.is.sets_up
 
   after_is : SeatOf moved_tracks after
-  after_is = subst (λ (x : Track). SeatIs x after) (sym (track_same tracks m next)) (record { status = f.reads.status; state = refl; mark = moved_count t (operation_of deed) f.reads.used done_read ∙ sym count_read })
+  after_is = call_seat d logs left tracks m (operation_of deed) done_read h.tracked call after refl f.reads.status refl count_read sets_up
 
   low : m < p.context.opened
   low = omega (arith, f.numbered, h.places, at_within n out seat f.there)
@@ -157,7 +91,7 @@ module _ (d : Dialect) (logs left : ServerLogs) (tracks : Tracks) (p : Progress)
   there = at_within n out seat f.there
 
   other : (x : Seat) → x.number ≢ n → SeatOf tracks x → SeatOf moved_tracks x
-  other x apart g = moves_other d logs left tracks m r.left next x (λ e. apart (e ∙ f.numbered)) g
+  other x apart g = call_other d logs left tracks m (operation_of deed) done_read h.tracked call x (λ e. apart (e ∙ f.numbered)) g
 
   none_held : count n (held p.context.slots) ≡ 0
   none_held = omega (arith, h.once n, ap one_there f.there)
@@ -177,8 +111,8 @@ module _ (d : Dialect) (logs left : ServerLogs) (tracks : Tracks) (p : Progress)
 
   on_keeps : Keeps d logs (with_left left m r.left) moved_tracks (held p.context.slots) (slice_set out n (Some after)) p.context.opened
   on_keeps = record {
-    tracked = moves_tracked d logs left tracks m r.left next h.tracked next_is;
-    unopened = λ k l. track_other tracks m k next (λ e. absurd (omega (arith, low, l, e))) ∙ h.unopened k l;
+    tracked = call_tracked d logs left tracks m (operation_of deed) done_read h.tracked call;
+    unopened = λ k l. call_apart d logs left tracks m (operation_of deed) done_read h.tracked call k (λ e. absurd (omega (arith, low, l, e))) ∙ h.unopened k l;
     in_slots = each_other (SeatOf tracks) (SeatOf moved_tracks) n (held p.context.slots) other none_held h.in_slots;
     free = h.free;
     places = length-set out n (Some after) ∙ h.places;
@@ -188,15 +122,10 @@ module _ (d : Dialect) (logs left : ServerLogs) (tracks : Tracks) (p : Progress)
   }
 
   on_says : (line : ℕ) (word : Word) → ((reply : Reply) (status : Option Status) → IsClean word reply status) → EntrySays d logs tracks moved_tracks p.context.opened p.context.blocks (Some deed) (entry_on line word r.value.reply after)
-  on_says line word clean = record {
-    at = subst (EndsWith d (logs m) r.value.status after.mark) (sym (track_same tracks m next)) (record { left = r.left; tracked = next_is; status = f.reads.status; mark_is = moved_count t (operation_of deed) f.reads.used done_read ∙ sym count_read });
-    clean = clean r.value.reply (Some r.value.status);
-    folds = moves_each d logs left tracks m r.left next (λ k o x. after_mark (logs k) (Some deed) r.value.reply (folded p.context.blocks (tracks k)) o ≡ folded p.context.blocks x) after.mark (λ k. refl)
-        (move_folds (logs m) r.left p.context.blocks t deed (operation_of deed) r.value.reply f.reads.used done_read after.mark f.reads.stack all_read count_read);
-    live = moves_each d logs left tracks m r.left next (λ k o x. MarkLive (logs k) (Some deed) r.value.reply (folded p.context.blocks (tracks k)) o → AllKeepLive (tracks k).steps (alone []) → AllKeepLive x.steps (alone [])) after.mark (λ k l g. g)
-        (move_live (logs m) r.left p.context.blocks t deed (operation_of deed) r.value.reply f.reads.used done_read after.mark f.reads.live all_read count_read);
-    opened_before = λ k. moves_each d logs left tracks m r.left next (λ j o x. is_some o ≡ true → j < p.context.opened) after.mark (λ j e. absurd (cc)) (λ e. low) k;
-  }
+  on_says line word clean =
+      call_says d logs left tracks m (operation_of deed) done_read h.tracked call p.context.opened p.context.blocks (Some deed) line word r.value.reply (Some r.value.status) after.mark low
+      (call_ends d logs left tracks m (operation_of deed) done_read h.tracked call r.value.status after.mark f.reads.status count_read sets_up)
+      (clean r.value.reply (Some r.value.status)) (record { stack = f.reads.stack; live = f.reads.live }) count_read
 
 module _ (d : Dialect) (logs left : ServerLogs) (tracks : Tracks) (p : Progress) (line n : ℕ) (word : Word) (clean : (reply : Reply) (status : Option Status) → IsClean word reply status) (dialect : p.dialect ≡ d) (h : ProgressKeeps d logs left tracks p) where
   abbrev Took : Option Deed → Taken → Type 0

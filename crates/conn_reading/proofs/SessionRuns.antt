@@ -14,7 +14,7 @@ use Rattle.conn_script.specs.declared.command.Command.{Command}
 use Rattle.conn_script.specs.declared.command.Script.{Script}
 use Rattle.conn_script.specs.declared.request.Request.{Request}
 use Rattle.conn_script.specs.declared.request.Request.TheVariants.{Get, Put, On}
-use Rattle.conn_reading.specs.Answered.{ServerLogs, Progress, Taken, Run, taken_get, taken_put, reads, reads_all, with_entry, all_read, whole, started, answered}
+use Rattle.conn_reading.specs.Answered.{ServerLogs, Progress, Taken, Run, taken_put, reads, reads_all, with_entry, all_read, whole, started, answered}
 use Rattle.conn_reading.specs.Blocks.{request_deed, request_blocks}
 use Rattle.conn_reading.specs.Folds.{alone, AllKeepLive, refuses_transaction, SetsInOpen}
 use Rattle.conn_reading.specs.Seats.{at_number}
@@ -33,8 +33,7 @@ CommandKeeps d logs tracks p request t = TakenKeeps d logs tracks p.context.open
 -- one command
 reads_keeps : (d : Dialect) (logs left : ServerLogs) (tracks : Tracks) (p : Progress) (line : ℕ) (request : Request) (t : Taken) → AsksPlain request → p.dialect ≡ d → ProgressKeeps d logs left tracks p → reads p left line request ≡ Some t
     → CommandKeeps d logs tracks p request t
-reads_keeps d logs left tracks p line Get t plain dialect h is =
-    let e : taken_get p left line p.context.slots ≡ t = cc in subst (CommandKeeps d logs tracks p Get) e (get_keeps d logs left tracks p line dialect h)
+reads_keeps d logs left tracks p line Get t plain dialect h is = get_keeps d logs left tracks p line t dialect h is
 reads_keeps d logs left tracks p line (Put n) t plain dialect h is =
     let e : taken_put p left line n (at_number n p.context.out) ≡ t = cc in subst (CommandKeeps d logs tracks p (Put n)) e (put_keeps d logs left tracks p line n (at_number n p.context.out) refl dialect h)
 reads_keeps d logs left tracks p line (On n verb) t plain dialect h is = verb_keeps d logs left tracks p line n verb t plain dialect h is

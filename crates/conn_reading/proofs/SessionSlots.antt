@@ -1,20 +1,20 @@
--- What `get` and `put` do to the connections of a session; no history moves.
-use Rattle.std.proofs.Common.{◌≡◌, ◌≢◌, ℕ, suc, ℤ, ◌+◌, ◌<◌, ◌≤◌, Bool, true, false, if◌then◌else◌, List, [], ◌∷◌, ◌++◌, append-nil, length, length-append, length-set, Option, Some, None, refl, sym, ap, subst, ◌∙◌, arith, inl, inr}
+-- What `get` and `put` do to the connections of a session; no history moves but that of a connection that sets itself up.
+use Rattle.std.proofs.Common.{◌≡◌, ◌≢◌, ℕ, suc, ◌+◌, ◌<◌, ◌≤◌, Bool, true, false, if◌then◌else◌, List, [], ◌∷◌, ◌++◌, length, length-set, Option, Some, None, refl, sym, ap, subst, ◌∙◌, arith, inl, inr}
 use Rattle.std.specs.Prelude.{slice_set, not}
 use Rattle.std.proofs.lemmas.Bool.{cases_eq}
 use Rattle.std.proofs.lemmas.Bool.Decides.{leb_tells}
 use Rattle.conn_model.specs.declared.item.Dialect.{Dialect}
 use Rattle.conn_manager.specs.Statuses.{Status, is_broken}
-use Rattle.conn_result.specs.declared.error.ConnectionError.TheVariants.{BadConnection}
 use Rattle.conn_report.specs.declared.entry.Reply.TheVariants as replies
 use Rattle.conn_script.specs.declared.command.Word.TheVariants as words
-use Rattle.conn_reading.specs.Answered.{ServerLogs, Progress, new_seat, refusal_at, taken_attempt, taken_get, taken_put}
-use Rattle.conn_reading.specs.Seats.{Seat, is_kept, put_reply, put_slot, at_number}
+use Rattle.conn_drivers.specs.Establishing.{url_fault}
+use Rattle.conn_reading.specs.Answered.{ServerLogs, Progress, Taken, taken, taken_kept, reads_get, taken_put}
+use Rattle.conn_reading.specs.Seats.{Seat, entry_without, is_kept, put_reply, put_slot, at_number}
 use Rattle.conn_reading.specs.Sessions.{Each}
-use Rattle.conn_reading.proofs.ByNumber.{one_there, at_within, at-set, at-set_other, at-last, at-last_other}
+use Rattle.conn_reading.proofs.ByNumber.{one_there, at_within, at-set, at-set_other}
 use Rattle.conn_reading.proofs.EachSeat.{held, count, held-append, each-append, count-append, count_here, count_other}
-use Rattle.conn_reading.proofs.SessionKept.{Tracks, SeatIs, SeatOf, IsAtNumber, IsFree, Keeps, ProgressKeeps, TakenKeeps, says_nothing, says_still}
-use Rattle.conn_reading.proofs.Tracks.{Track, no_track}
+use Rattle.conn_reading.proofs.SessionKept.{Tracks, SeatOf, IsAtNumber, IsFree, Keeps, ProgressKeeps, TakenKeeps, says_nothing, says_still}
+use Rattle.conn_reading.proofs.SessionOpens.{opening_keeps}
 
 -- a connection in a slot was opened
 opened_held : (d : Dialect) (logs left : ServerLogs) (tracks : Tracks) (slots : List Seat) (out : List (Option Seat)) (opened n : ℕ) → Keeps d logs left tracks slots out opened → 0 < count n slots → n < opened
@@ -25,77 +25,10 @@ opened_held d logs left tracks slots out opened n h there = elim (leb_tells open
 
 -- ---- get
 
-new_is : (tracks : Tracks) (n : ℕ) → tracks n ≡ no_track → SeatOf tracks (new_seat n)
-new_is tracks n e = subst (λ (t : Track). SeatIs t (new_seat n)) (sym e) (record { status = refl; state = refl; mark = refl })
-
-attempt_keeps : (d : Dialect) (logs left : ServerLogs) (tracks : Tracks) (p : Progress) (line : ℕ) (rest : List (Option Seat)) (o : Option ℤ) → p.dialect ≡ d → Keeps d logs left tracks (held rest) p.context.out p.context.opened
-    → TakenKeeps d logs tracks p.context.opened None p.context.blocks p.context.blocks (taken_attempt p left line rest o)
-attempt_keeps d logs left tracks p line rest (Some code) dialect h = record {
-  tracks = tracks;
-  progress = subst (λ (l : List Seat). Keeps d logs left tracks l p.context.out p.context.opened) (sym (held-append rest (None ∷ []) ∙ append-nil (held rest))) h;
-  dialect = dialect;
-  grows = omega arith;
-  open_blocks = refl;
-  entry = says_nothing d logs tracks p.context.opened p.context.blocks None line words.Get None (replies.Pool (BadConnection code)) tt;
-}
-attempt_keeps d logs left tracks p line rest None dialect h =
-    let n : ℕ = p.context.opened in
-    let seat : Seat = new_seat n in
-    let here : SeatOf tracks seat = new_is tracks n (h.unopened n (omega arith)) in
-    record {
-      tracks = tracks;
-      progress = record {
-        tracked = h.tracked;
-        unopened = λ k l. h.unopened k (omega (arith, l));
-        in_slots = h.in_slots;
-        free = h.free;
-        places = omega (arith, h.places, length-append out (Some seat ∷ []));
-        in_out = out_at here;
-        once = one_more;
-        none = λ k l. h.none k (omega (arith, l));
-      };
-      dialect = dialect;
-      grows = omega arith;
-      open_blocks = refl;
-      entry = says_still d logs left tracks (n + 1) p.context.blocks line words.Get replies.Ok seat h.tracked here refl (omega arith);
-    }
-  where
-    out : List (Option Seat)
-    out = p.context.out
-
-    seat : Seat
-    seat = new_seat p.context.opened
-
-    last_is : at_number p.context.opened (out ++ Some seat ∷ []) ≡ Some seat
-    last_is = subst (λ (k : ℕ). at_number k (out ++ Some seat ∷ []) ≡ Some seat) h.places (at-last out (Some seat))
-
-    other_is : (k : ℕ) → k ≢ p.context.opened → at_number k (out ++ Some seat ∷ []) ≡ at_number k out
-    other_is k apart = at-last_other k out (Some seat) (λ e. apart (e ∙ h.places))
-
-    out_at : SeatOf tracks seat → (k : ℕ) (x : Seat) → at_number k (out ++ Some seat ∷ []) ≡ Some x → IsAtNumber tracks k x
-    out_at here k x e = elim (cases_eq k p.context.opened) [
-      | inl same ↦ (let is : seat ≡ x = cc (sym last_is ∙ subst (λ (j : ℕ). at_number j (out ++ Some seat ∷ []) ≡ Some x) same e) in subst (λ (y : Seat). IsAtNumber tracks k y) is (sym same, here))
-      | inr apart ↦ h.in_out k x (sym (other_is k apart) ∙ e)
-    ]
-
-    one_more : (k : ℕ) → count k (held rest) + one_there (at_number k (out ++ Some seat ∷ [])) ≤ 1
-    one_more k = elim (cases_eq k p.context.opened) [
-      | inl same ↦ subst (λ (j : ℕ). count j (held rest) + one_there (at_number j (out ++ Some seat ∷ [])) ≤ 1) (sym same) (omega (arith, h.none p.context.opened (omega arith), ap one_there last_is))
-      | inr apart ↦ omega (arith, h.once k, ap one_there (other_is k apart))
-    ]
-
-get_keeps_at : (d : Dialect) (logs left : ServerLogs) (tracks : Tracks) (p : Progress) (line : ℕ) (slots : List (Option Seat)) → p.dialect ≡ d → Keeps d logs left tracks (held slots) p.context.out p.context.opened → p.context.slots ≡ slots
-    → TakenKeeps d logs tracks p.context.opened None p.context.blocks p.context.blocks (taken_get p left line slots)
-get_keeps_at d logs left tracks p line [] dialect h e = record {
-  tracks = tracks;
-  progress = subst (λ (l : List (Option Seat)). Keeps d logs left tracks (held l) p.context.out p.context.opened) (sym e) h;
-  dialect = dialect;
-  grows = omega arith;
-  open_blocks = refl;
-  entry = says_nothing d logs tracks p.context.opened p.context.blocks None line words.Get None replies.NoneFree tt;
-}
-get_keeps_at d logs left tracks p line (None ∷ rest) dialect h e = attempt_keeps d logs left tracks p line rest (refusal_at p) dialect h
-get_keeps_at d logs left tracks p line (Some seat ∷ rest) dialect h e =
+-- a connection in the front slot
+kept_keeps : (d : Dialect) (logs left : ServerLogs) (tracks : Tracks) (p : Progress) (line : ℕ) (seat : Seat) (rest : List (Option Seat)) → p.dialect ≡ d → Keeps d logs left tracks (seat ∷ held rest) p.context.out p.context.opened
+    → TakenKeeps d logs tracks p.context.opened None p.context.blocks p.context.blocks (taken_kept p left line rest seat)
+kept_keeps d logs left tracks p line seat rest dialect h =
     record {
       tracks = tracks;
       progress = record {
@@ -142,8 +75,26 @@ get_keeps_at d logs left tracks p line (Some seat ∷ rest) dialect h e =
       | inr apart ↦ omega (arith, h.once k, ap one_there (at-set_other k m out (Some seat) apart))
     ]
 
-pub get_keeps : (d : Dialect) (logs left : ServerLogs) (tracks : Tracks) (p : Progress) (line : ℕ) → p.dialect ≡ d → ProgressKeeps d logs left tracks p → TakenKeeps d logs tracks p.context.opened None p.context.blocks p.context.blocks (taken_get p left line p.context.slots)
-get_keeps d logs left tracks p line dialect h = get_keeps_at d logs left tracks p line p.context.slots dialect h refl
+get_keeps_at : (d : Dialect) (logs left : ServerLogs) (tracks : Tracks) (p : Progress) (line : ℕ) (slots : List (Option Seat)) (t : Taken) → p.dialect ≡ d → Keeps d logs left tracks (held slots) p.context.out p.context.opened → p.context.slots ≡ slots
+    → reads_get p left line slots ≡ Some t → TakenKeeps d logs tracks p.context.opened None p.context.blocks p.context.blocks t
+get_keeps_at d logs left tracks p line [] t dialect h e is =
+    let same : taken (entry_without line words.Get None replies.NoneFree) p left ≡ t = cc in
+    subst (TakenKeeps d logs tracks p.context.opened None p.context.blocks p.context.blocks) same (record {
+      tracks = tracks;
+      progress = subst (λ (l : List (Option Seat)). Keeps d logs left tracks (held l) p.context.out p.context.opened) (sym e) h;
+      dialect = dialect;
+      grows = omega arith;
+      open_blocks = refl;
+      entry = says_nothing d logs tracks p.context.opened p.context.blocks None line words.Get None replies.NoneFree tt;
+    })
+get_keeps_at d logs left tracks p line (None ∷ rest) t dialect h e is = opening_keeps d logs left tracks p line rest (url_fault p.dialect p.url) t dialect h is
+get_keeps_at d logs left tracks p line (Some seat ∷ rest) t dialect h e is =
+    let same : taken_kept p left line rest seat ≡ t = cc in
+    subst (TakenKeeps d logs tracks p.context.opened None p.context.blocks p.context.blocks) same (kept_keeps d logs left tracks p line seat rest dialect h)
+
+pub get_keeps : (d : Dialect) (logs left : ServerLogs) (tracks : Tracks) (p : Progress) (line : ℕ) (t : Taken) → p.dialect ≡ d → ProgressKeeps d logs left tracks p → reads_get p left line p.context.slots ≡ Some t
+    → TakenKeeps d logs tracks p.context.opened None p.context.blocks p.context.blocks t
+get_keeps d logs left tracks p line t dialect h is = get_keeps_at d logs left tracks p line p.context.slots t dialect h refl is
 
 -- ---- put
 

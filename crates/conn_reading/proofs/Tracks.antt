@@ -7,7 +7,7 @@ use Rattle.conn_model.specs.declared.item.Item.{Item}
 use Rattle.conn_manager.specs.Manages.{Done}
 use Rattle.conn_manager.specs.Statuses.{Status, no_depth}
 use Rattle.conn_reading.specs.Folds.{Stack, alone, after_items, kind_of, after_step, fold_of, KeepsLive, AllKeepLive}
-use Rattle.conn_reading.specs.Histories.{Operation, IsOperation, operation_process, Step, Follow, step_items, IsHistory}
+use Rattle.conn_reading.specs.Histories.{Operation, IsOperation, operation_process, Step, Follow, step_items, StartsSetUp, IsHistory}
 use Rattle.conn_reading.specs.Reading.{Read, Reads}
 use Rattle.conn_reading.specs.Sessions.{Folded, between}
 use Rattle.conn_reading.specs.declared.blocks.Block.{Block}
@@ -42,6 +42,11 @@ follow-last d s end after S left [] e f is reads =
     let here : Reads d s (operation_process d left e.operation) e.items e.answer after = subst (λ (x : State). Reads d x (operation_process d left e.operation) e.items e.answer after) f.0 reads in
     (is, (after, subst (λ (X : Status). Reads d s (operation_process d X e.operation) e.items e.answer after) f.1 here, (refl, refl)))
 follow-last d s end after S left (x ∷ steps) e f is reads = (f.0, (f.1.0, f.1.1, follow-last d f.1.0 end after x.answer.status left steps e f.1.2 is reads))
+
+-- what set itself up stays so
+pub set_up-last : (steps : List Step) (e : Step) → StartsSetUp steps → StartsSetUp (steps ++ e ∷ [])
+set_up-last [] e h = absurd h
+set_up-last (x ∷ steps) e h = h
 
 pub items-last : (steps : List Step) (e : Step) → step_items (steps ++ e ∷ []) ≡ step_items steps ++ e.items
 items-last [] e = append-nil e.items

@@ -1,13 +1,18 @@
 -- What the finished logs of a session's servers answer to its commands.
-use Rattle.std.specs.Prelude.{ℕ, ◌+◌, ◌-◌, ◌^◌, ◌==◌, ◌&&◌, min, nat_eq, zero, suc, ℤ, negsuc, Bool, true, List, [], ◌∷◌, ◌++◌, length, slice_set, Option, Some, None, if◌then◌else◌}
+use Rattle.std.specs.Prelude.{ℕ, ◌+◌, ◌-◌, ◌^◌, ◌==◌, ◌&&◌, min, nat_eq, zero, suc, ℤ, negsuc, Bool, true, List, [], ◌∷◌, ◌++◌, length, slice_set, Option, Some, None, Ok, Err, if◌then◌else◌}
 use Rattle.std.specs.Option.{option_map, option_and_then}
-use Rattle.conn_result.specs.declared.error.ConnectionError.TheVariants.{BadConnection}
+use Rattle.conn_result.specs.declared.error.ConnectionError.{ConnectionError}
+use Rattle.conn_result.specs.declared.error.ConnectionError.TheVariants.{BadConnection, CouldntSetupConfiguration}
+use Rattle.conn_result.specs.declared.error.Error.{Error}
 use Rattle.conn_model.specs.Armed.{Armed}
 use Rattle.conn_model.specs.States.{Idle}
 use Rattle.conn_model.specs.declared.item.Dialect.{Dialect}
 use Rattle.conn_model.specs.declared.item.Item.{Item}
 use Rattle.conn_model.specs.declared.plan.PlanLine.{PlanLine}
 use Rattle.conn_server.specs.Connected.{planned_at}
+use Rattle.conn_drivers.specs.Establishing.{url_fault}
+use Rattle.conn_manager.specs.Manages.{Done, Reply as Answer}
+use Rattle.conn_manager.specs.Setups.{setup_process}
 use Rattle.conn_manager.specs.Statuses.{no_depth}
 use Rattle.conn_report.specs.declared.entry.Entry.{Entry}
 use Rattle.conn_report.specs.declared.entry.Reply.TheVariants as replies
@@ -22,7 +27,7 @@ use Rattle.conn_script.specs.declared.request.Verb.{Verb}
 use Rattle.conn_reading.specs.Asking.{Outcome, process_of}
 use Rattle.conn_reading.specs.Blocks.{block_on, blocks_after, deed_of}
 use Rattle.conn_reading.specs.Reading.{Read, read}
-use Rattle.conn_reading.specs.Seats.{Seat, Context, at_first, entry_on, entry_without, at_number, put_reply, put_slot}
+use Rattle.conn_reading.specs.Seats.{Seat, Context, at_first, make_entry, entry_on, entry_without, at_number, put_reply, put_slot}
 use Rattle.conn_reading.specs.declared.deed.Deed.{Deed}
 
 -- for each server, by its number, the items that aren't read yet
@@ -30,13 +35,14 @@ abbrev pub ServerLogs : Type 0
 ServerLogs = ℕ → List Item
 
 -- where the reading stands: the connections, the attempts to open one so far, the plan, the rows that servers are armed
--- with, and what the servers are
+-- with, what the servers are, and the URL at which they are opened
 pub record Progress : Type 0 where
   pub context : Context
   pub attempts : ℕ
   pub plan : List PlanLine
   pub armed : List Armed
   pub dialect : Dialect
+  pub url : List ℕ
 
 -- an entry, where the reading stands after it, and the items that are left
 pub record Taken : Type 0 where
@@ -91,7 +97,7 @@ reads_by_deed line n verb p logs = reads_deed p logs line (verb_word verb) (deed
 abbrev pub with_blocks : ℕ → Verb → Taken → Taken
 with_blocks n verb t = record t { progress = record t.progress { context = record t.progress.context { blocks = blocks_after n verb t.entry.reply t.progress.context.blocks } } }
 
--- ---- get and put, which read no item
+-- ---- get and put
 
 -- the code with which the next attempt is refused, where it is: no number is left, or the plan says so
 abbrev pub refusal_at : Progress → Option ℤ
@@ -101,22 +107,55 @@ refusal_at p = if nat_eq p.context.opened 4294967295 then Some (negsuc 9) else p
 abbrev pub attempted : Progress → Context → Progress
 attempted p context = record p { context = context; attempts = min (p.attempts + 1) (2 ^ 64 - 1) }
 
--- a connection that was just opened
-abbrev pub new_seat : ℕ → Seat
-new_seat n = record { number = n; status = no_depth; mark = 0; state = Idle [] }
+-- a connection that was just opened, after the items by which it set itself up, of which there were so many
+abbrev pub new_seat : ℕ → ℕ → Read Done → Seat
+new_seat n count r = record { number = n; status = r.value.status; mark = count; state = r.state }
 
--- an empty slot in front is filled by the server of the least number not used yet, or goes to the back
-abbrev pub taken_attempt : Progress → ServerLogs → ℕ → List (Option Seat) → Option ℤ → Taken
-taken_attempt p logs line rest (Some code) = taken (entry_without line words.Get None (replies.Pool (BadConnection code))) (attempted p (record p.context { slots = rest ++ None ∷ [] })) logs
-taken_attempt p logs line rest None =
-    let seat = new_seat p.context.opened in
-    taken (entry_on line words.Get replies.Ok seat) (attempted p (record p.context { slots = rest; out = p.context.out ++ Some seat ∷ []; opened = p.context.opened + 1 })) logs
+-- an attempt opened a server: these slots are left, and at the server's place stands a connection or none
+abbrev pub with_opened : Progress → List (Option Seat) → Option Seat → Progress
+with_opened p slots place = attempted p (record p.context { slots = slots; out = p.context.out ++ place ∷ []; opened = p.context.opened + 1 })
+
+-- the entry of a connection whose setup was refused: its server is closed again
+abbrev pub setup_refused : ℕ → Seat → Error → Entry
+setup_refused line seat e = make_entry line words.Get (Some seat.number) (replies.Pool (CouldntSetupConfiguration e seat.number)) None (Some seat.mark)
+
+-- by the answer of its setup the connection is handed out, or its slot goes to the back
+abbrev pub taken_opened : Progress → ServerLogs → ℕ → List (Option Seat) → Seat → Answer → Taken
+taken_opened p logs line rest seat (Ok u) = taken (entry_on line words.Get replies.Ok seat) (with_opened p rest (Some seat)) logs
+taken_opened p logs line rest seat (Err e) = taken (setup_refused line seat e) (with_opened p (rest ++ None ∷ []) None) logs
+
+-- what the setup of server n read is taken from its log
+abbrev pub taken_setup : Progress → ServerLogs → ℕ → List (Option Seat) → ℕ → Read Done → Taken
+taken_setup p logs line rest n r = taken_opened p (with_left logs n r.left) line rest (new_seat n (length (logs n) - length r.left) r) r.value.reply
+
+-- an attempt was refused: the slot goes to the back
+abbrev pub attempt_refused : Progress → ServerLogs → ℕ → List (Option Seat) → ℤ → Taken
+attempt_refused p logs line rest code = taken (entry_without line words.Get None (replies.Pool (BadConnection code))) (attempted p (record p.context { slots = rest ++ None ∷ [] })) logs
+
+-- an empty slot in front is filled by the server of the least number not used yet, whose next items are those by which its
+-- connection sets itself up; or it goes to the back
+abbrev pub reads_attempt : Progress → ServerLogs → ℕ → List (Option Seat) → Option ℤ → Option Taken
+reads_attempt p logs line rest (Some code) = Some (attempt_refused p logs line rest code)
+reads_attempt p logs line rest None = option_map (taken_setup p logs line rest p.context.opened) (read p.dialect p.armed (Idle []) (setup_process p.dialect no_depth) (logs p.context.opened))
+
+-- a URL that is at fault is no attempt: the slot goes to the back
+abbrev pub url_refused : Progress → ServerLogs → ℕ → List (Option Seat) → ConnectionError → Taken
+url_refused p logs line rest fault = taken (entry_without line words.Get None (replies.Pool fault)) (record p { context = record p.context { slots = rest ++ None ∷ [] } }) logs
+
+-- by the fault of the URL, where it has one
+abbrev pub reads_opening : Progress → ServerLogs → ℕ → List (Option Seat) → Option ConnectionError → Option Taken
+reads_opening p logs line rest (Some fault) = Some (url_refused p logs line rest fault)
+reads_opening p logs line rest None = reads_attempt p logs line rest (refusal_at p)
+
+-- a connection in the front slot is handed out
+abbrev pub taken_kept : Progress → ServerLogs → ℕ → List (Option Seat) → Seat → Taken
+taken_kept p logs line rest seat = taken (entry_on line words.Get replies.Ok seat) (record p { context = record p.context { slots = rest; out = slice_set p.context.out seat.number (Some seat) } }) logs
 
 -- `get` by the slots: none is free, the front one is empty, or it has a connection
-abbrev pub taken_get : Progress → ServerLogs → ℕ → List (Option Seat) → Taken
-taken_get p logs line [] = taken (entry_without line words.Get None replies.NoneFree) p logs
-taken_get p logs line (None ∷ rest) = taken_attempt p logs line rest (refusal_at p)
-taken_get p logs line (Some seat ∷ rest) = taken (entry_on line words.Get replies.Ok seat) (record p { context = record p.context { slots = rest; out = slice_set p.context.out seat.number (Some seat) } }) logs
+abbrev pub reads_get : Progress → ServerLogs → ℕ → List (Option Seat) → Option Taken
+reads_get p logs line [] = Some (taken (entry_without line words.Get None replies.NoneFree) p logs)
+reads_get p logs line (None ∷ rest) = reads_opening p logs line rest (url_fault p.dialect p.url)
+reads_get p logs line (Some seat ∷ rest) = Some (taken_kept p logs line rest seat)
 
 -- `put`: the slot goes to the back, with the connection where it is kept
 abbrev pub taken_put : Progress → ServerLogs → ℕ → ℕ → Option Seat → Taken
@@ -127,7 +166,7 @@ taken_put p logs line n (Some seat) = taken (entry_on line words.Put (put_reply 
 
 -- one command, where the items that it asks come next and are allowed
 abbrev pub reads : Progress → ServerLogs → ℕ → Request → Option Taken
-reads p logs line Get = Some (taken_get p logs line p.context.slots)
+reads p logs line Get = reads_get p logs line p.context.slots
 reads p logs line (Put n) = Some (taken_put p logs line n (at_number n p.context.out))
 reads p logs line (On n verb) = option_map (with_blocks n verb) (reads_by_deed line n verb p logs)
 
@@ -157,7 +196,7 @@ whole run = if all_read run.progress.context.opened run.left then Some run.entri
 
 -- nothing is open yet
 abbrev pub started : Script → Progress
-started script = record { context = at_first; attempts = 0; plan = script.plan; armed = []; dialect = script.dialect }
+started script = record { context = at_first; attempts = 0; plan = script.plan; armed = []; dialect = script.dialect; url = script.url }
 
 -- a script's commands over the logs of its servers, by their numbers
 abbrev pub run_of : Script → ServerLogs → Option Run

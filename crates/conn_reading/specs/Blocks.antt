@@ -66,9 +66,9 @@ request_deed blocks (On n verb) = deed_of (block_on n blocks) verb
 -- ---- what its reply makes of the blocks
 
 -- a block whose opening had this reply
-abbrev pub opened_by : Reply → BlockState
-opened_by replies.Ok = Live
-opened_by _ = Dead
+abbrev pub opening_state : Reply → BlockState
+opening_state replies.Ok = Live
+opening_state _ = Dead
 
 -- the innermost block is refused, where it is one of connection n
 abbrev pub with_refusal : ℕ → Error → List Block → List Block
@@ -87,7 +87,7 @@ without_block n (b ∷ bs) = if b.connection == n then bs else b ∷ bs
 
 -- after a command of connection n with this reply; the lines that open and close a block refuse none around it
 abbrev pub blocks_after : ℕ → Verb → Reply → List Block → List Block
-blocks_after n (verbs.Block kind) reply blocks = record { connection = n; kind = kind; state = opened_by reply } ∷ blocks
+blocks_after n (verbs.Block kind) reply blocks = record { connection = n; kind = kind; state = opening_state reply } ∷ blocks
 blocks_after n verbs.End reply blocks = without_block n blocks
 blocks_after n verbs.Fail reply blocks = without_block n blocks
 blocks_after n verb reply blocks = blocks_told n reply blocks

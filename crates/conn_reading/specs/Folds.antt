@@ -10,6 +10,7 @@ use Rattle.conn_model.specs.declared.item.Dialect.{Dialect}
 use Rattle.conn_model.specs.declared.item.Effect.{Effect}
 use Rattle.conn_model.specs.declared.item.Effect.TheVariants.{Aborts, Ends, Loses}
 use Rattle.conn_model.specs.declared.item.Item.{Item}
+pub use Rattle.conn_server.specs.Logged.{is_accepted}
 use Rattle.conn_manager.specs.Manages.{Reply}
 use Rattle.conn_manager.specs.Statuses.{Status}
 use Rattle.conn_manager.specs.declared.status.InTransactionStatus.{InTransactionStatus}
@@ -101,11 +102,6 @@ is_transaction_class _ = true
 abbrev pub is_savepoint_class : Class → Bool
 is_savepoint_class (of.Savepoint k) = true
 is_savepoint_class _ = false
-
--- no refusal
-abbrev pub is_accepted : Answer → Bool
-is_accepted Accepted = true
-is_accepted (Refused r e) = false
 
 -- the transaction is over by it
 abbrev pub ends : Effect → Bool

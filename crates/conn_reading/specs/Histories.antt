@@ -1,5 +1,5 @@
 -- What the calls of one connection read of its log, one after another.
-use Rattle.std.specs.Prelude.{◌≡◌, ⊤, List, [], ◌∷◌, ◌++◌, ℕ}
+use Rattle.std.specs.Prelude.{◌≡◌, ⊤, List, [], ◌∷◌, ◌++◌, ℕ, Ok}
 use Rattle.conn_model.specs.Classes.{class}
 use Rattle.conn_model.specs.Process.{Process}
 use Rattle.conn_model.specs.States.{State, Idle}
@@ -7,6 +7,7 @@ use Rattle.conn_model.specs.declared.class.Class.TheVariants as of
 use Rattle.conn_model.specs.declared.item.Dialect.{Dialect}
 use Rattle.conn_model.specs.declared.item.Item.{Item}
 use Rattle.conn_manager.specs.Manages.{Done, Reply, begin_process, begin_sql_process, begin_test_process, commit_process, rollback_process}
+use Rattle.conn_manager.specs.Setups.{setup_process}
 use Rattle.conn_manager.specs.Statuses.{Status, no_depth}
 use Rattle.conn_script.specs.declared.command.BlockKind.{BlockKind}
 use Rattle.conn_reading.specs.Asking.{close_process}
@@ -23,6 +24,10 @@ pub data Operation : Type 0 where
   TestBegin : Operation
   Close : BlockKind → Reply → Operation
   Asks : (Dialect → Status → Process Done) → Operation
+
+-- a connection that was just opened sets itself up
+abbrev pub Setup : Operation
+Setup = Asks setup_process
 
 -- the status that a call leaves
 abbrev pub left_status : Done → Status
@@ -63,6 +68,11 @@ Follow d s S (e ∷ es) end left = IsOperation e.operation × ((after : State) �
 abbrev pub step_items : List Step → List Item
 step_items [] = []
 step_items (e ∷ es) = e.items ++ step_items es
+
+-- the first of these calls was the setup, and it was accepted
+abbrev pub StartsSetUp : List Step → Type 0
+StartsSetUp [] = ⊥
+StartsSetUp (e ∷ es) = (e.operation ≡ Setup) × (e.answer.reply ≡ Ok tt)
 
 -- a new connection made these calls, and its status is this after them
 pub record IsHistory (d : Dialect) (steps : List Step) (S : Status) : Type 0 where

@@ -4,6 +4,7 @@ use Rattle.std.specs.List.{list_any}
 use Rattle.conn_model.specs.Classes.{class}
 use Rattle.conn_model.specs.States.{Idle}
 use Rattle.conn_model.specs.declared.item.Dialect.{Dialect}
+use Rattle.conn_model.specs.declared.item.Dialect.TheVariants.{Pg, Mysql, Sqlite}
 use Rattle.conn_model.specs.declared.item.Item.{Item}
 use Rattle.conn_manager.specs.Statuses.{Status, is_broken}
 use Rattle.conn_report.specs.declared.entry.Entry.{Entry}
@@ -20,7 +21,7 @@ use Rattle.conn_script.specs.declared.request.Verb.TheVariants as verbs
 use Rattle.conn_reading.specs.Answered.{ServerLogs}
 use Rattle.conn_reading.specs.Blocks.{request_deed, request_blocks}
 use Rattle.conn_reading.specs.Folds.{Stack, alone, after_items, Kind, Begins, Commits, Rolls, Closes, Sends, after_reply, KeepsLive, refuses_transaction, SetsInOpen, NestedMeaning}
-use Rattle.conn_reading.specs.Histories.{Step, step_items, IsHistory}
+use Rattle.conn_reading.specs.Histories.{Step, step_items, StartsSetUp, IsHistory}
 use Rattle.conn_reading.specs.Verdicts.{is_plain, Verdict, StandsOver}
 use Rattle.conn_reading.specs.declared.blocks.Block.{Block}
 use Rattle.conn_reading.specs.declared.deed.Deed.{Deed}
@@ -61,9 +62,10 @@ IsMarked P logs (Some n) (Some S) (Some mark) = P S (take mark (logs n))
 abbrev pub EachMarked : (Status → List Item → Type 0) → ServerLogs → List Entry → Type 0
 EachMarked P logs entries = Each (λ (e : Entry). IsMarked P logs e.connection e.status e.mark) entries
 
--- the log is that of a history of a connection, which ends with the status
+-- the log is that of a history of a connection, which begins with its setup and ends with the status
 pub record IsRecorded (d : Dialect) (S : Status) (log : List Item) : Type 0 where
   pub steps : List Step
+  pub sets_up : StartsSetUp steps
   pub is_log : log ≡ step_items steps
   pub is_history : IsHistory d steps S
 
@@ -181,6 +183,13 @@ pub record EntryPremises (d : Dialect) (n : ℕ) (log : List Item) (commands : L
   pub none_refused : list_any refuses_transaction log ≡ false
   pub none_in_idle : SetsInOpen d (Idle []) log
   pub live : EntriesLive n log commands entries unfolded
+
+-- what a dialect leaves of them where the first holds: on PostgreSQL a refusal may abort, on MySQL an idle server may accept a
+-- savepoint
+abbrev pub PremisesLeft : Dialect → ℕ → List Item → List Command → List Entry → Type 0
+PremisesLeft Pg n log commands entries = EntriesLive n log commands entries unfolded
+PremisesLeft Mysql n log commands entries = SetsInOpen Mysql (Idle []) log
+PremisesLeft Sqlite n log commands entries = ⊤
 
 -- ---- the fold after each entry
 

@@ -1,6 +1,6 @@
 //! The blocks of a session that are open.
 ghost use Rattle.std.specs.Prelude.{◌≡◌, ◌∷◌, [], IfOk, OnErr};
-ghost use Rattle.conn_reading.specs.Blocks.{block_on, blocks_after, blocks_told, closing, deed_in, deed_of, if_live, opened_by, plain_deed, with_refusal, without_block};
+ghost use Rattle.conn_reading.specs.Blocks.{block_on, blocks_after, blocks_told, closing, deed_in, deed_of, if_live, opening_state, plain_deed, with_refusal, without_block};
 
 use crate::Deed;
 use conn_model::LentText;
@@ -82,8 +82,8 @@ fn deed_in<'a>(block: Block, verb: &Verb<'a>) -> Option<Deed<'a>>
 }
 
 /// How a block stands whose opening had this reply.
-fn opened_by(reply: Reply) -> BlockState
-    ensures { result ≡ opened_by reply }
+fn opening_state(reply: &Reply) -> BlockState
+    ensures { result ≡ opening_state reply.now }
 {
     match reply {
         Reply::Ok => BlockState::Live,
@@ -155,10 +155,10 @@ impl Blocks {
         &mut self,
         connection: u32,
         verb: &Verb<'_>,
-        reply: Reply,
+        reply: &Reply,
     ) -> Result<(), AllocError>
         ensures after { IfOk result (λ _. self.new
-            ≡ blocks_after connection verb.now reply self.old) }
+            ≡ blocks_after connection verb.now reply.now self.old) }
         ensures kept { OnErr result (self.new ≡ self.old) }
     {
         match (verb, reply) {
@@ -166,11 +166,11 @@ impl Blocks {
                 return self.push(Block {
                     connection,
                     kind: *kind,
-                    state: opened_by(reply),
+                    state: opening_state(reply),
                 });
             }
             (Verb::End | Verb::Fail, _) => self.close(connection),
-            (_, Reply::Error(e)) => self.refuse(connection, e),
+            (_, Reply::Error(e)) => self.refuse(connection, *e),
             _ => {}
         }
         Ok(())

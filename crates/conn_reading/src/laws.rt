@@ -14,7 +14,7 @@ ghost use Rattle.conn_reading.specs.Answered.{ServerLogs, answered};
 ghost use Rattle.conn_reading.specs.Verdicts.{Verdict, StandsOver};
 ghost use Rattle.conn_reading.specs.Folds.{alone, fold_of, FoldPremises, NestedMeaning, refuses_transaction};
 ghost use Rattle.conn_reading.specs.Histories.{Step, step_items, IsHistory};
-ghost use Rattle.conn_reading.specs.Sessions.{EachRecorded, EachVerdict, EachStandsOver, EachClean, EntryPremises, EachNested, is_opened, unfolded, fold_entries};
+ghost use Rattle.conn_reading.specs.Sessions.{EachRecorded, EachVerdict, EachStandsOver, EachClean, EntryPremises, PremisesLeft, EachNested, is_opened, unfolded, fold_entries};
 
 /// After any calls of a new connection its status is borne out by its server's log.
 pub fn status_is_borne_out()
@@ -43,8 +43,8 @@ pub fn kept_writes_are_the_fold()
         → option_map kept (state_of d (step_items steps)) ≡ Some (fold_of steps (alone [])).lowest }
 {}
 
-/// Each status that a session's entries show is what a history of its connection ends with, and the server's log up to the
-/// entry's mark is the log of that history.
+/// Each status that a session's entries show is what a history of its connection ends with, which begins with its setup, and
+/// the server's log up to the entry's mark is the log of that history.
 pub fn entries_are_recorded()
     ensures { (bytes : List ℕ) (script : Script) (logs : ServerLogs) (entries : List Entry)
         → script_of bytes ≡ Ok script → answered script logs ≡ Some entries
@@ -92,11 +92,13 @@ pub fn kept_writes_are_the_fold_of_entries()
         ≡ Some (fold_entries n (logs n) script.commands entries unfolded).stack.lowest }
 {}
 
-/// On SQLite the first premise of the fold gives the other two, for the log of each server that was opened.
-pub fn sqlite_wants_one_premise()
+/// Where no text of a transaction was refused, a dialect leaves at most one of the fold's other two premises, for the log of
+/// each server that was opened.
+pub fn dialects_leave_fewer_premises()
     ensures { (bytes : List ℕ) (script : Script) (logs : ServerLogs) (entries : List Entry)
         → script_of bytes ≡ Ok script → answered script logs ≡ Some entries
-        → script.dialect ≡ Sqlite → (n : ℕ) → is_opened n entries ≡ true
+        → (n : ℕ) → is_opened n entries ≡ true
         → list_any refuses_transaction (logs n) ≡ false
+        → PremisesLeft script.dialect n (logs n) script.commands entries
         → EntryPremises script.dialect n (logs n) script.commands entries }
 {}

@@ -2,8 +2,6 @@
 use Rattle.std.specs.Prelude.{ℕ, ◌+◌, Bool, true, false, List, [], ◌∷◌, ◌++◌, length, Option, Some, None, codes, decimal}
 use Rattle.std.specs.Fmt.{signed_decimal}
 use Rattle.std.specs.List.{flat_map}
-use Rattle.conn_result.specs.declared.error.DatabaseErrorKind.{DatabaseErrorKind}
-use Rattle.conn_result.specs.declared.error.DatabaseErrorKind.TheVariants as kinds
 use Rattle.conn_result.specs.declared.error.BuildFault.{BuildFault}
 use Rattle.conn_result.specs.declared.error.BuildFault.TheVariants as build
 use Rattle.conn_result.specs.declared.error.RowFault.{RowFault}
@@ -19,7 +17,7 @@ use Rattle.conn_result.specs.declared.error.ConnectionError.TheVariants as conne
 use Rattle.conn_manager.specs.declared.status.InTransactionStatus.{InTransactionStatus}
 use Rattle.conn_manager.specs.declared.status.TransactionManagerStatus.{TransactionManagerStatus}
 use Rattle.conn_manager.specs.declared.status.TransactionManagerStatus.TheVariants.{Valid, InError}
-use Rattle.conn_script.specs.Spelling.{word_text}
+use Rattle.conn_script.specs.Spelling.{kind_text, word_text}
 use Rattle.conn_report.specs.declared.entry.Entry.{Entry}
 use Rattle.conn_report.specs.declared.entry.Reply.{Reply}
 use Rattle.conn_report.specs.declared.entry.Reply.TheVariants as replies
@@ -42,20 +40,6 @@ transaction_text (Some t) = depth_text t
 abbrev pub status_text : TransactionManagerStatus → List ℕ
 status_text (Valid v) = transaction_text v.in_transaction
 status_text InError = codes "broken"
-
--- a kind of refusal by its name
-abbrev pub kind_text : DatabaseErrorKind → List ℕ
-kind_text kinds.UniqueViolation = codes "UniqueViolation"
-kind_text kinds.ForeignKeyViolation = codes "ForeignKeyViolation"
-kind_text kinds.UnableToSendCommand = codes "UnableToSendCommand"
-kind_text kinds.SerializationFailure = codes "SerializationFailure"
-kind_text kinds.ReadOnlyTransaction = codes "ReadOnlyTransaction"
-kind_text kinds.NotNullViolation = codes "NotNullViolation"
-kind_text kinds.CheckViolation = codes "CheckViolation"
-kind_text kinds.ClosedConnection = codes "ClosedConnection"
-kind_text kinds.Unknown = codes "Unknown"
-kind_text kinds.RestrictViolation = codes "RestrictViolation"
-kind_text kinds.ExclusionViolation = codes "ExclusionViolation"
 
 -- why a query has no text to send
 abbrev pub build_text : BuildFault → List ℕ

@@ -3,7 +3,8 @@ use Rattle.std.proofs.Common.{rules, ◌≡◌, ℕ, ◌<◌, ◌≤◌, Bool, t
 use Rattle.std.proofs.lemmas.Grind.{common_steps}
 use Rattle.std.proofs.lemmas.List.{take-append-drop, append-nil, drop_all}
 use Rattle.std.proofs.Math.Seq.{take-append_seam}
-use Rattle.std.specs.Prelude.{◌==◌, nat_lt, codes}
+use Rattle.std.specs.Prelude.{◌==◌, nat_lt, codes, if◌then◌else◌}
+use Rattle.std.specs.Option.{option_map}
 use Rattle.std.specs.Str.{IsUtf8, IsValidUpTo, bytes_eq}
 use Rattle.std.specs.List.{list_all, All}
 use Rattle.std.proofs.lemmas.List.Sums.{AllPass-from_list_all}
@@ -14,7 +15,9 @@ use Rattle.std.proofs.lemmas.Slice.Eq.{bytes_eq-Decides}
 use Rattle.std.proofs.lemmas.Str.{IsUtf8-append, IsUtf8-from_ascii}
 use Rattle.conn_script.specs.Words.{split_at}
 use Rattle.conn_script.specs.Fronts.{IsFront}
-use Rattle.conn_script.specs.Grammar.{lines_of, judged, judged_last, next, guard}
+use Rattle.conn_model.specs.declared.item.Dialect.TheVariants.{Pg, Mysql, Sqlite}
+use Rattle.conn_script.specs.Grammar.{lines_of, judged, judged_last, next}
+use Rattle.conn_script.specs.Fields.{session_dialect}
 use Rattle.conn_script.specs.Drafts.{Draft, empty_draft}
 use Rattle.conn_script.proofs.Lines.{put_first, left_last, left_bad, next_not_text}
 
@@ -69,16 +72,26 @@ last_more n (Some s) (x ∷ xs) h = refl
 all_below : (bs : List ℕ) → list_all (λ b. nat_lt b 128) bs ≡ true → All (λ b. b < 128) bs
 all_below bs e = λ k d lt. ltb-true _ 128 (AllPass-from_list_all (λ b. nat_lt b 128) bs e k d lt)
 
-header_is_text : IsUtf8 (codes "session sqlite 1 nop nocheck")
-header_is_text = IsUtf8-from_ascii (codes "session sqlite 1 nop nocheck") (IsAscii-from_all (codes "session sqlite 1 nop nocheck") (all_below (codes "session sqlite 1 nop nocheck") refl))
+-- it is no line of such bytes alone
+differs : (line header : List ℕ) (t : Bool) → list_all (λ b. nat_lt b 128) header ≡ true → ¬ (IsUtf8 line) → bytes_eq line header ≡ t → t ≡ false
+differs line header true all h e = absurd (h (subst IsUtf8 (sym ((bytes_eq-Decides line header).0 e)) (IsUtf8-from_ascii header (IsAscii-from_all header (all_below header all)))))
+differs line header false all h e = refl
 
-first_not_text : (line : List ℕ) (t : Bool) → bytes_eq line (codes "session sqlite 1 nop nocheck") ≡ t → ¬ (IsUtf8 line) → guard t empty_draft ≡ None
-first_not_text line true e h = absurd (h (subst IsUtf8 (sym ((bytes_eq-Decides line (codes "session sqlite 1 nop nocheck")).0 e)) (header_is_text)))
-first_not_text line false e h = refl
+none_first : (a b c : Bool) → a ≡ false → b ≡ false → c ≡ false → option_map empty_draft (if a then Some Pg else if b then Some Mysql else if c then Some Sqlite else None) ≡ None
+none_first true b c p q r = absurd (cc)
+none_first false true c p q r = absurd (cc)
+none_first false false true p q r = absurd (cc)
+none_first false false false p q r = refl
+
+first_not_text : (line : List ℕ) → ¬ (IsUtf8 line) → option_map empty_draft (session_dialect line) ≡ None
+first_not_text line h = none_first _ _ _ (not_this (codes "session pg 1 nop nocheck") refl) (not_this (codes "session mysql 1 nop nocheck") refl) (not_this (codes "session sqlite 1 nop nocheck") refl)
+  where
+    not_this : (header : List ℕ) → list_all (λ b. nat_lt b 128) header ≡ true → bytes_eq line header ≡ false
+    not_this header all = differs line header (bytes_eq line header) all h refl
 
 -- no script goes on with a line that is no text
 none_next : (n : ℕ) (s : Option Draft) (line : List ℕ) → ¬ (IsUtf8 line) → next n s line ≡ None
-none_next n None line h = first_not_text line (bytes_eq line (codes "session sqlite 1 nop nocheck")) refl h
+none_next n None line h = first_not_text line h
 none_next n (Some s) line h = next_not_text n s line h
 
 -- the line in which the text ends is no text

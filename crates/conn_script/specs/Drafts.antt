@@ -1,6 +1,7 @@
 -- What the lines so far say, and what one line more adds.
-use Rattle.std.specs.Prelude.{ℕ, ◌+◌, ◌&&◌, not, Bool, false, nat_le, nat_lt, [], ◌∷◌, ◌++◌, length, Option, codes}
-use Rattle.conn_model.specs.declared.item.Dialect.TheVariants as dialects
+use Rattle.std.specs.Prelude.{ℕ, ◌+◌, ◌&&◌, not, Bool, false, nat_le, nat_lt, List, [], ◌∷◌, ◌++◌, length, Option, codes}
+use Rattle.conn_model.specs.declared.item.Dialect.{Dialect}
+use Rattle.conn_model.specs.declared.item.Dialect.TheVariants.{Pg, Mysql, Sqlite}
 use Rattle.conn_model.specs.declared.plan.PlanLine.{PlanLine}
 use Rattle.conn_script.specs.Keys.{is_named_in}
 use Rattle.conn_script.specs.Openings.{blocks_behind, inside_behind, may_stand}
@@ -22,13 +23,19 @@ pub record Draft : Type 0 where
 abbrev pub drafted : Script → ℕ → ℕ → Draft
 drafted script blocks inside = record { script = script; blocks = blocks; inside = inside }
 
--- a session over SQLite with a pool of one connection, which is neither customized nor checked
-abbrev pub empty_script : Script
-empty_script = record { dialect = dialects.Sqlite; max_size = 1; customizer = customizers.Nop; check = false; url = codes ":memory:"; plan = []; commands = [] }
+-- where a server of a dialect is found
+abbrev pub default_url : Dialect → List ℕ
+default_url Pg = codes "postgres://localhost"
+default_url Mysql = codes "mysql://localhost"
+default_url Sqlite = codes ":memory:"
+
+-- a session over a dialect with a pool of one connection, which is neither customized nor checked
+abbrev pub empty_script : Dialect → Script
+empty_script dialect = record { dialect = dialect; max_size = 1; customizer = customizers.Nop; check = false; url = default_url dialect; plan = []; commands = [] }
 
 -- the draft of the first line alone
-abbrev pub empty_draft : Draft
-empty_draft = drafted empty_script 0 0
+abbrev pub empty_draft : Dialect → Draft
+empty_draft dialect = drafted (empty_script dialect) 0 0
 
 -- the draft with one command more, that of line n
 abbrev pub command_added : ℕ → Draft → Act → Draft

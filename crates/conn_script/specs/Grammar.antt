@@ -6,6 +6,7 @@ use Rattle.conn_model.specs.Numbers.{number}
 pub use Rattle.conn_script.specs.Options.{◌>>=◌, guard}
 use Rattle.conn_script.specs.Words.{split_at, is_statement}
 use Rattle.conn_script.specs.Spelling.{word_named}
+use Rattle.conn_script.specs.Fields.{session_dialect}
 use Rattle.conn_script.specs.Plans.{refused_of}
 use Rattle.conn_script.specs.Drafts.{Draft, empty_draft, with_command, with_refused, if_closable}
 use Rattle.conn_script.specs.declared.command.Word.{Word}
@@ -25,8 +26,8 @@ connection_alone rest = do
   number 4294967296 text
 
 -- the block that is named so
-abbrev pub kind_named : List ℕ → Option BlockKind
-kind_named bs =
+abbrev pub block_named : List ℕ → Option BlockKind
+block_named bs =
     if bytes_eq bs (codes "plain") then Some kinds.Plain else
     if bytes_eq bs (codes "test") then Some kinds.Test else None
 
@@ -46,7 +47,7 @@ act_from words.TestBegin rest = option_map acts.TestBegin (connection_alone rest
 act_from words.Transaction rest = do
   text ← rest
   c ← number 4294967296 (split_at 32 text).0
-  kind ← (split_at 32 text).1 >>= kind_named
+  kind ← (split_at 32 text).1 >>= block_named
   Some (acts.Block c kind)
 act_from words.End rest = option_map acts.End (connection_alone rest)
 act_from words.Fail rest = option_map acts.Fail (connection_alone rest)
@@ -59,7 +60,7 @@ act_of first rest = do
 
 -- the draft with one line more, the line of number n, by its first word and what follows it behind a space
 abbrev pub with_words : ℕ → Draft → List ℕ × Option (List ℕ) → Option Draft
-with_words n d line = if bytes_eq line.0 (codes "refuse") then (refused_of line.1 >>= with_refused d) else (act_of line.0 line.1 >>= with_command n d)
+with_words n d line = if bytes_eq line.0 (codes "refuse") then (refused_of d.script.dialect line.1 >>= with_refused d) else (act_of line.0 line.1 >>= with_command n d)
 
 -- the draft with one more line of text, behind which the lines that are due can still come
 abbrev pub with_text : ℕ → Draft → List ℕ → Option Draft
@@ -67,7 +68,7 @@ with_text n d line = with_words n d (split_at 32 line) >>= if_closable
 
 -- the draft that the lines up to this one, the line of number n, make, if a script may go on with it
 abbrev pub next : ℕ → Option Draft → List ℕ → Option Draft
-next n None line = guard (bytes_eq line (codes "session sqlite 1 nop nocheck")) empty_draft
+next n None line = option_map empty_draft (session_dialect line)
 next n (Some d) line = if is_utf8 line then with_text n d line else None
 
 -- a byte in front of the first line

@@ -1,7 +1,7 @@
 //! What commands ask for.
 ghost use Rattle.std.specs.Prelude.{◌≡◌};
 ghost use Rattle.std.specs.Option.{option_copied};
-ghost use Rattle.conn_script.specs.Grammar.{act_from, act_of, connection_alone, kind_named};
+ghost use Rattle.conn_script.specs.Grammar.{act_from, act_of, block_named, connection_alone};
 ghost use Rattle.conn_script.specs.Spelling.{word_named};
 
 use crate::statement::is_statement_text;
@@ -41,8 +41,8 @@ fn batch_in<'a>(rest: Option<&'a str>) -> Option<Act<'a>>
 }
 
 /// The block that is named so.
-fn kind_of(text: &str) -> Option<BlockKind>
-    ensures { result ≡ kind_named text.now }
+fn block_of(text: &str) -> Option<BlockKind>
+    ensures { result ≡ block_named text.now }
 {
     if text == "plain" {
         return Some(BlockKind::Plain);
@@ -58,7 +58,7 @@ fn block_in<'a>(rest: Option<&'a str>) -> Option<Act<'a>>
 {
     let (connection, kind) = cut_word(rest?);
     let connection = number_u32(connection)?;
-    let kind = kind_of(kind?)?;
+    let kind = block_of(kind?)?;
     Some(Act::Block(connection, kind))
 }
 

@@ -1,7 +1,7 @@
 //! What the lines so far say.
 ghost use Rattle.std.specs.Prelude.{◌≡◌, ◌==◌, IfOk, OnErr};
 ghost use Rattle.conn_script.specs.Options.{guard};
-ghost use Rattle.conn_script.specs.Drafts.{can_close, empty_draft, empty_script, with_command, with_refused};
+ghost use Rattle.conn_script.specs.Drafts.{can_close, default_url, empty_draft, empty_script, with_command, with_refused};
 
 use crate::openings::{bounds_block, can_end, may_stand, open_behind};
 use crate::plan::{Refused, plan_line};
@@ -35,16 +35,27 @@ impl<'a> Model for Draft<'a> {
     ghost invariant = { λ d. AreKeys compare_items refused_key d.refused.keys d.script.plan };
 }
 
+/// Where a server of the dialect is found.
+fn default_url(dialect: Dialect) -> &'static str
+    ensures { result.now ≡ default_url dialect }
+{
+    match dialect {
+        Dialect::Pg => "postgres://localhost",
+        Dialect::Mysql => "mysql://localhost",
+        Dialect::Sqlite => ":memory:",
+    }
+}
+
 /// The script of the first line alone.
-fn empty<'a>(alloc: Global) -> Result<Script<'a>, AllocError>
-    ensures { IfOk result (λ script. script ≡ empty_script) }
+fn empty<'a>(alloc: Global, dialect: Dialect) -> Result<Script<'a>, AllocError>
+    ensures { IfOk result (λ script. script ≡ empty_script dialect) }
 {
     Ok(Script {
-        dialect: Dialect::Sqlite,
+        dialect,
         max_size: 1,
         customizer: Customizer::Nop,
         check: false,
-        url: Text::new(alloc, ":memory:")?,
+        url: Text::new(alloc, default_url(dialect))?,
         plan: Items::new(alloc),
         commands: Items::new(alloc),
     })
@@ -52,15 +63,22 @@ fn empty<'a>(alloc: Global) -> Result<Script<'a>, AllocError>
 
 impl<'a> Draft<'a> {
     /// The draft of the first line alone.
-    pub fn new(alloc: Global) -> Result<Draft<'a>, AllocError>
-        ensures { IfOk result (λ draft. draft ≡ empty_draft) }
+    pub fn new(alloc: Global, dialect: Dialect) -> Result<Draft<'a>, AllocError>
+        ensures { IfOk result (λ draft. draft ≡ empty_draft dialect) }
     {
         Ok(Draft {
-            script: empty(alloc)?,
+            script: empty(alloc, dialect)?,
             blocks: 0,
             inside: 0,
             refused: BTreeSet::new(alloc),
         })
+    }
+
+    /// The dialect of its servers.
+    pub fn dialect(&self) -> Dialect
+        ensures { result ≡ self.now.script.dialect }
+    {
+        self.script.dialect
     }
 
     /// Whether the lines that close the open blocks can still come.

@@ -1,16 +1,14 @@
--- One attempt more at the same target.
-use Rattle.std.proofs.Common.{◌≡◌, List, [], ◌∷◌, ◌++◌, Option, Some, None, refl, sym, subst}
-use Rattle.std.specs.List.{AllByRecursion}
+-- One attempt more where the URL says.
+use Rattle.std.proofs.Common.{◌≡◌, ℕ, List, Option, Some, None, Ok, sym, subst}
+use Rattle.conn_model.specs.declared.item.Dialect.{Dialect}
 use Rattle.conn_model.specs.declared.plan.Target.{Target}
-use Rattle.conn_server.specs.Connected.{AreAt, aimed}
+use Rattle.conn_drivers.specs.Establishing.{AreAt, target_in}
+use Rattle.conn_server.specs.Connected.{aimed}
+use Rattle.conn_session.proofs.Totals.{all-last}
 
-all-push : (target : Target) (ts : List Target) → AllByRecursion (λ t. t ≡ target) ts → AllByRecursion (λ t. t ≡ target) (ts ++ target ∷ [])
-all-push target [] all = (refl, tt)
-all-push target (t ∷ ts) all = (all.0, all-push target ts all.1)
+aimed_at : (d : Dialect) (url : List ℕ) (target : Target) (old : Option (List Target)) → target_in d url ≡ Ok target → AreAt d url old → AreAt d url (aimed target old)
+aimed_at d url target None is at = tt
+aimed_at d url target (Some ts) is at = all-last (λ (t : Target). target_in d url ≡ Ok t) ts target at is
 
-aimed_at : (target : Target) (old : Option (List Target)) → AreAt target old → AreAt target (aimed target old)
-aimed_at target None at = tt
-aimed_at target (Some ts) at = all-push target ts at
-
-pub aims : (target : Target) (old new : Option (List Target)) → new ≡ aimed target old → AreAt target old → AreAt target new
-aims target old new e at = subst (AreAt target) (sym e) (aimed_at target old at)
+pub aims : (d : Dialect) (url : List ℕ) (target : Target) (old new : Option (List Target)) → target_in d url ≡ Ok target → new ≡ aimed target old → AreAt d url old → AreAt d url new
+aims d url target old new is e at = subst (AreAt d url) (sym e) (aimed_at d url target old is at)

@@ -4,7 +4,7 @@ use Rattle.conn_report.specs.declared.entry.Entry.{Entry}
 use Rattle.conn_script.specs.Grammar.{script_of}
 use Rattle.conn_script.specs.declared.command.Script.{Script}
 use Rattle.conn_server.specs.Connected.{Connected}
-use Rattle.conn_reading.proofs.OnSqlite.{one_premise}
+use Rattle.conn_reading.proofs.Premises.{premises_left}
 use Rattle.conn_reading.proofs.SessionLaws.{each_verdict, each_stands_over, each_clean, each_nested, kept_by_entries}
 use Rattle.conn_session.specs.Accounts.{logs_of}
 use Rattle.conn_session.specs.Commands.{IsAnswered, AreBorneOut, IsParsed}
@@ -18,7 +18,7 @@ are_borne_out script k entries parsed is =
       clean = each_clean parsed.bytes script logs entries parsed.parses is.entries_are;
       nested = each_nested parsed.bytes script logs entries parsed.parses is.entries_are;
       folds = kept_by_entries parsed.bytes script logs entries parsed.parses is.entries_are;
-      on_sqlite = λ n sqlite. one_premise parsed.bytes script logs entries parsed.parses is.entries_are sqlite n;
+      premises = premises_left parsed.bytes script logs entries parsed.parses is.entries_are;
     }
 
 pub is_parsed : (bytes : List ℕ) (script : Script) → script_of bytes ≡ Ok script → IsParsed script

@@ -92,4 +92,4 @@ all_caused_by old new servers now (x ∷ xs) e same all = (
 )
 
 pub opening-refl : (w : World) → KeepsOpening w w
-opening-refl w = record { dialect = refl; target = refl; size = refl; plan = refl; aims = λ h. h }
+opening-refl w = record { dialect = refl; url = refl; size = refl; plan = refl; aims = λ h. h }

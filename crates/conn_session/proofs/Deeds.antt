@@ -5,13 +5,12 @@ use Rattle.std.specs.declared.alloc.AllocError.{AllocError}
 use Rattle.std.proofs.lemmas.List.{length-append}
 use Rattle.conn_model.specs.Acts.{Acts}
 use Rattle.conn_model.specs.Armed.{Armed}
-use Rattle.conn_model.specs.Seen.{Seen, IsHonest}
+use Rattle.conn_model.specs.Seen.{IsHonest}
 use Rattle.conn_model.specs.States.{State, state_of}
 use Rattle.conn_model.specs.declared.item.Dialect.{Dialect}
 use Rattle.conn_model.specs.declared.item.Item.{Item}
 use Rattle.conn_model.specs.declared.plan.Order.{Order}
 use Rattle.conn_manager.specs.Views.{View}
-use Rattle.conn_manager.specs.declared.instrumentation.NoInstrumentation.{NoInstrumentation}
 use Rattle.conn_reading.specs.Answered.{ServerLogs, Progress, Taken, taken, reads_on}
 use Rattle.conn_reading.specs.Asking.{outcome, process_of}
 use Rattle.conn_reading.specs.Reading.{ReadsItems}
@@ -22,22 +21,29 @@ use Rattle.conn_reading.proofs.Appends.{HasRead, reads_acts}
 use Rattle.conn_reading.proofs.InPlace.{only, only_same, reads_in_place}
 use Rattle.conn_reading.proofs.Looks.{command_looks}
 use Rattle.conn_report.specs.declared.entry.Entry.{Entry}
+use Rattle.conn_report.specs.declared.entry.Reply.{Reply}
 use Rattle.conn_report.specs.declared.entry.Reply.TheVariants as replies
 use Rattle.conn_script.specs.declared.command.Word.{Word}
 use Rattle.conn_server.specs.Ordered.{planned}
 use Rattle.conn_session.specs.Known.{Has, OfServer, Grows, progress, with_more}
 use Rattle.conn_session.specs.Transfers.{puts_out}
 use Rattle.conn_session.specs.Plays.{PlaysOn}
-use Rattle.conn_session.specs.Responses.{ActsIn, Enters, Shows, IsRefused, IsBlocks, IsUnopened, seat_of, state_told}
-use Rattle.conn_session.specs.Steps.{DoesOn, IsCausedOn, KeepsAll}
-use Rattle.conn_session.specs.Worlds.{World, Invariant, refusals, context_of, view_of}
-use Rattle.conn_session.specs.declared.connection.ServerConnection.{ServerConnection}
+use Rattle.conn_session.specs.Responses.{ActsIn, Does, Replies, IsRefused, IsBlocks, IsUnopened, seat_of, state_told}
+use Rattle.conn_session.specs.Steps.{DoesOn, IsCausedOn, KeepsAll, entry_at, entered}
+use Rattle.conn_session.specs.Worlds.{World, Invariant, refusals, context_of}
 use Rattle.conn_session.proofs.Counts.{later-refl, opening-refl, answers_open}
 use Rattle.conn_session.proofs.Growing.{grows_nothing, known_grown}
 use Rattle.conn_session.proofs.Honest.{state_of_log, sent_of_log}
 use Rattle.conn_session.proofs.Moving.{asked_out, vacant_same}
+use Rattle.conn_session.proofs.Numbers.{at_number-set}
 use Rattle.conn_session.proofs.Shown.{seats-at, context-puts_out}
 use Rattle.conn_session.proofs.Totals
+
+-- the entry shows the reply to a deed, and the connection after it
+record Shows (honest : Bool) (line : ℕ) (word : Word) (deed : Deed) (old new : View) (entry : Entry) : Type 0 where
+  reply : Reply
+  answered : Replies honest deed old new reply
+  entry_is : entry ≡ entry_on line word reply (seat_of new)
 
 module _ (honest tells : Bool) (honest_tells : honest ≡ true → tells ≡ true) (line n : ℕ) (word : Word) (deed : Deed) (w : World) where
   -- how it is read
@@ -45,9 +51,11 @@ module _ (honest tells : Bool) (honest_tells : honest ≡ true → tells ≡ tru
   reads_in p logs = reads_on p logs line word deed n (at_number n p.context.out)
 
   -- its connection isn't out
-  pub on_absent : (entry : Entry) → at_number n w.pool.out ≡ None → entry ≡ entry_without line word (Some n) replies.NotOut → Invariant w → DoesOn honest line n word deed w w (Ok entry)
-  on_absent entry none entry_is holds =
+  pub on_absent : at_number n w.pool.out ≡ None → Invariant w → DoesOn honest line n word deed w w (entered line word n w (Ok replies.NotOut))
+  on_absent none holds =
       let there : at_number n (context_of w).out ≡ None = seats-at w.pool.out n None none in
+      let entry : Entry = entry_at line word n replies.NotOut (at_number n (context_of w).out) in
+      let entry_is : entry ≡ entry_without line word (Some n) replies.NotOut = ap (entry_at line word n replies.NotOut) there in
       record {
         keeps = record { holds = holds; counts = later-refl w; opening = opening-refl w };
         blocks = refl;
@@ -111,56 +119,61 @@ module _ (honest tells : Bool) (honest_tells : honest ≡ true → tells ≡ tru
         }
 
   -- it was done, or there was no memory for it
-  pub on_answered : (v u : View) (result : Result Entry AllocError) → at_number n w.pool.out ≡ Some v → Enters tells line word deed v u result → (honest ≡ true → IsHonest u.seen) → Invariant w
-      → DoesOn honest line n word deed w (record w { pool = puts_out n (Some u) w.pool }) result
-  on_answered v u result there enters is_honest holds = by_result result enters
+  pub on_answered : (v u : View) (result : Result Reply AllocError) → at_number n w.pool.out ≡ Some v → Does tells deed v u result → (honest ≡ true → IsHonest u.seen) → Invariant w
+      → DoesOn honest line n word deed w (record w { pool = puts_out n (Some u) w.pool }) (entered line word n (record w { pool = puts_out n (Some u) w.pool }) result)
+  on_answered v u result there does is_honest holds = by_result result does
     where
       new : World
       new = record w { pool = puts_out n (Some u) w.pool }
 
-      keeps : (result : Result Entry AllocError) → Enters tells line word deed v u result → KeepsAll w new
-      keeps result enters = record {
-        holds = asked_out w n v u there enters.same.number holds;
+      keeps : (result : Result Reply AllocError) → Does tells deed v u result → KeepsAll w new
+      keeps result does = record {
+        holds = asked_out w n v u there does.same.number holds;
         counts = record {
           later = omega arith;
-          refusals_later = λ m. omega (arith, Totals.sum-set_at (refusals m) w.pool.out n v (Some u) there, Totals.refusals_later m v.seen u.seen enters.same.number enters.later);
+          refusals_later = λ m. omega (arith, Totals.sum-set_at (refusals m) w.pool.out n v (Some u) there, Totals.refusals_later m v.seen u.seen does.same.number does.later);
         };
-        opening = record { dialect = refl; target = refl; size = refl; plan = refl; aims = λ h. h };
+        opening = record { dialect = refl; url = refl; size = refl; plan = refl; aims = λ h. h };
       }
 
-      by_result : (result : Result Entry AllocError) → Enters tells line word deed v u result → DoesOn honest line n word deed w new result
-      by_result (Err e) enters = record { keeps = keeps (Err e) enters; blocks = refl; plays_entry = tt; caused = tt; grows = λ _. tt }
-      by_result (Ok entry) enters = record {
-        keeps = keeps (Ok entry) enters;
-        blocks = refl;
-        plays_entry = subst (PlaysOn line word deed n (context_of w) entry (context_of new)) (sym (seats-at w.pool.out n (Some v) there)) (record {
-          reply = enters.shown.reply;
-          after = seat_of u;
-          answer = enters.shown.answered.answer;
-          numbered = enters.same.number;
-          entry_is = enters.shown.entry_is;
-          context_is = context-puts_out w n (Some u);
-        });
-        caused = caused_there v u entry there enters.shown holds;
-        grows = λ h. read_grown v u entry there enters.shown holds h (is_honest h);
-      }
+      by_result : (result : Result Reply AllocError) → Does tells deed v u result → DoesOn honest line n word deed w new (entered line word n new result)
+      by_result (Err e) does = record { keeps = keeps (Err e) does; blocks = refl; plays_entry = tt; caused = tt; grows = λ _. tt }
+      by_result (Ok reply) does =
+          let entry : Entry = entry_at line word n reply (at_number n (context_of new).out) in
+          let entry_is : entry ≡ entry_on line word reply (seat_of u) = ap (entry_at line word n reply) (seats-at new.pool.out n (Some u) (at_number-set n w.pool.out v (Some u) there)) in
+          let shown : Shows tells line word deed v u entry = record { reply = reply; answered = does.answered; entry_is = entry_is } in
+          record {
+            keeps = keeps (Ok reply) does;
+            blocks = refl;
+            plays_entry = subst (PlaysOn line word deed n (context_of w) entry (context_of new)) (sym (seats-at w.pool.out n (Some v) there)) (record {
+              reply = reply;
+              after = seat_of u;
+              answer = does.answered.answer;
+              numbered = does.same.number;
+              entry_is = entry_is;
+              context_is = context-puts_out w n (Some u);
+            });
+            caused = caused_there v u entry there shown holds;
+            grows = λ h. read_grown v u entry there shown holds h (is_honest h);
+          }
 
 -- ---- at a place
 
 -- each connection of an honest server has an honest server
-pub honest_place : {S : Type 0} (seen : S → Seen) → ((s : S) → IsHonest (seen s)) → (place : Option (ServerConnection S NoInstrumentation)) → OfServer IsHonest (option_map (view_of seen) place)
-honest_place seen honest None = tt
-honest_place seen honest (Some c) = honest c.server
+pub honest_place : {C : Type 0} (view : C → View) → ((c : C) → IsHonest (view c).seen) → (place : Option C) → OfServer IsHonest (option_map view place)
+honest_place view honest None = tt
+honest_place view honest (Some c) = honest c
 
 module _ (honest tells : Bool) (honest_tells : honest ≡ true → tells ≡ true) (line n : ℕ) (word : Word) (deed : Deed) (w : World) where
-  pub on_place : (o new : Option View) (result : Result Entry AllocError) → at_number n w.pool.out ≡ o → ActsIn tells line word deed o new (Some result) → (honest ≡ true → OfServer IsHonest new) → Invariant w
-      → DoesOn honest line n word deed w (record w { pool = puts_out n new w.pool }) result
+  pub on_place : (o new : Option View) (result : Result Reply AllocError) → at_number n w.pool.out ≡ o → ActsIn tells deed o new (Some result) → (honest ≡ true → OfServer IsHonest new) → Invariant w
+      → DoesOn honest line n word deed w (record w { pool = puts_out n new w.pool }) (entered line word n (record w { pool = puts_out n new w.pool }) result)
   on_place None new result there acts is_honest holds = absurd (cc (acts.1))
   on_place (Some v) None result there acts is_honest holds = absurd acts
   on_place (Some v) (Some u) result there acts is_honest holds = on_answered honest tells honest_tells line n word deed w v u result there acts is_honest holds
 
+module _ (tells : Bool) (n : ℕ) (deed : Deed) (w : World) where
   -- nothing was there
-  pub on_left : (o new : Option View) → at_number n w.pool.out ≡ o → ActsIn tells line word deed o new None → (at_number n w.pool.out ≡ None) × (puts_out n new w.pool ≡ w.pool)
+  pub on_left : (o new : Option View) → at_number n w.pool.out ≡ o → ActsIn tells deed o new None → (at_number n w.pool.out ≡ None) × (puts_out n new w.pool ≡ w.pool)
   on_left None new there acts = (there, ap (λ (x : Option View). puts_out n x w.pool) acts.0 ∙ vacant_same w.pool n there)
   on_left (Some v) None there acts = absurd acts
   on_left (Some v) (Some u) there acts = absurd acts

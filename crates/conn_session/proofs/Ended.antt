@@ -13,20 +13,20 @@ use Rattle.conn_model.specs.declared.item.Dialect.{Dialect}
 use Rattle.conn_model.specs.declared.item.Item.{Item}
 use Rattle.conn_model.specs.declared.plan.Order.{Order}
 use Rattle.conn_model.specs.declared.plan.PlanLine.{PlanLine}
-use Rattle.conn_model.specs.declared.plan.Target.{Target}
 use Rattle.conn_reading.specs.Answered.{ServerLogs, Progress, started}
 use Rattle.conn_reading.specs.Readings.{ReadsAll}
 use Rattle.conn_reading.proofs.InOrder.{is_answered, is_opened}
 use Rattle.conn_report.specs.declared.entry.Entry.{Entry}
 use Rattle.conn_script.specs.declared.command.Command.{Command}
 use Rattle.conn_script.specs.declared.command.Script.{Script}
-use Rattle.conn_server.specs.Connected.{Connected, AreAt, first_returned, writes_by}
+use Rattle.conn_drivers.specs.Establishing.{AreAt, url_fault}
+use Rattle.conn_server.specs.Connected.{Connected, first_returned, writes_by}
 use Rattle.conn_server.specs.Ordered.{planned}
 use Rattle.conn_session.specs.Accounts.{AllBack, logs_of}
 use Rattle.conn_session.specs.Commands.{IsAnswered, TellsKept, EachTold, RunsScript}
 use Rattle.conn_session.specs.Known.{Has, IsKnown, progress}
 use Rattle.conn_session.specs.Plays.{PlaysAll}
-use Rattle.conn_session.specs.Steps.{KeepsAll, Runs, Closes}
+use Rattle.conn_session.specs.Steps.{KeepsAll, RunsAll, Closes}
 use Rattle.conn_session.specs.Worlds.{Pool, World, Invariant, new_pool, of_number, refusals, context_of}
 use Rattle.conn_session.proofs.Counts.{all_caused_by}
 use Rattle.conn_session.proofs.Totals
@@ -111,17 +111,17 @@ module _ (d : Dialect) (plan : List PlanLine) (logs : ServerLogs) (k : Connected
 
 -- ---- a script over new servers
 
-abbrev pub at_start : Dialect → Target → Connected → World
-at_start d target k = record { pool = new_pool d target; connector = k }
+abbrev pub at_start : Dialect → List ℕ → Connected → World
+at_start d url k = record { pool = new_pool d url; connector = k }
 
-known_start : (d : Dialect) (target : Target) (k : Connected) → k.returned ≡ [] → IsKnown (λ n. []) (at_start d target k)
-known_start d target k returned = record {
+known_start : (d : Dialect) (url : List ℕ) (k : Connected) → k.returned ≡ [] → IsKnown (λ n. []) (at_start d url k)
+known_start d url k returned = record {
   servers = record { slots = (tt, tt); out = tt; returned = subst (AllByRecursion (Has d k.armed (λ n. []))) (sym returned) tt };
   fresh = λ n l. refl;
 }
 
 start_is : (script : Script) (opened attempts : ℕ) (plan : List PlanLine) → opened ≡ 0 → attempts ≡ 0 → plan ≡ script.plan
-    → let P : Type 0 = Progress in let x : P = record { context = record { slots = None ∷ []; out = []; opened = opened; blocks = [] }; attempts = attempts; plan = plan; armed = []; dialect = script.dialect } in x ≡ started script
+    → let P : Type 0 = Progress in let x : P = record { context = record { slots = None ∷ []; out = []; opened = opened; blocks = [] }; attempts = attempts; plan = plan; armed = []; dialect = script.dialect; url = script.url } in x ≡ started script
 start_is script opened attempts plan e f g = cc (e, f, g)
 
 -- each server is back, once
@@ -131,8 +131,8 @@ all_back w k holds closed = record {
   none = λ n l. closed.totals (of_number n) ∙ holds.accounts.none n (omega (arith, closed.opened, l));
 }
 
-module _ (honest : Bool) (script : Script) (target : Target) (old new : Connected) (w : World) (entries : List Entry) (opened : old.opened ≡ 0) (returned : old.returned ≡ [])
-    (keeps : KeepsAll (at_start script.dialect target old) w) (runs : Runs honest script.commands (at_start script.dialect target old) w entries) (closed : Closes w new) where
+module _ (honest : Bool) (script : Script) (old new : Connected) (w : World) (entries : List Entry) (opened : old.opened ≡ 0) (returned : old.returned ≡ [])
+    (keeps : KeepsAll (at_start script.dialect script.url old) w) (runs : RunsAll honest script.commands (at_start script.dialect script.url old) w entries) (closed : Closes w new) where
   plan_is : w.connector.armed ≡ old.armed
   plan_is = keeps.opening.plan
 
@@ -142,7 +142,7 @@ module _ (honest : Bool) (script : Script) (target : Target) (old new : Connecte
 
   run_answered : honest ≡ true → old.attempts ≡ 0 → old.armed ≡ script.plan → IsAnswered script new entries
   run_answered h attempts armed =
-      let run = runs.grows h (λ n. []) (known_start script.dialect target old returned) in
+      let run = runs.grows h (λ n. []) (known_start script.dialect script.url old returned) in
       let back = all_back w new keeps.holds closed in
       let have = have_all run.0 run.1 in
       let read : ReadsAll (started script) run.0 script.commands entries (progress w) =
@@ -156,35 +156,33 @@ module _ (honest : Bool) (script : Script) (target : Target) (old new : Connecte
 
   run_kept : honest ≡ true → EachTold script.dialect new (λ n. writes_by true n new.returned)
   run_kept h =
-      let run = runs.grows h (λ n. []) (known_start script.dialect target old returned) in
+      let run = runs.grows h (λ n. []) (known_start script.dialect script.url old returned) in
       each_kept script.dialect old.armed run.0 new (all_back w new keeps.holds closed) (have_all run.0 run.1)
 
   pub runs_script : RunsScript honest script old new entries
   runs_script = record {
-    played = (context_of w, subst (λ (n : ℕ). PlaysAll (record { slots = None ∷ []; out = []; opened = n; blocks = [] }) script.commands entries (context_of w)) opened runs.plays_entries);
-    caused = all_caused_by (at_start script.dialect target old) w (λ n. sum_by (refusals n) new.returned) new.failures entries closed.counts (λ n. closed.totals (refusals n)) (runs.caused tt).0;
+    played = (context_of w, subst (λ (n : ℕ). PlaysAll (url_fault script.dialect script.url) (record { slots = None ∷ []; out = []; opened = n; blocks = [] }) script.commands entries (context_of w)) opened runs.plays_entries);
+    caused = all_caused_by (at_start script.dialect script.url old) w (λ n. sum_by (refusals n) new.returned) new.failures entries closed.counts (λ n. closed.totals (refusals n)) (runs.caused tt).0;
     answered = run_answered;
     kept = run_kept;
   }
 
 -- ---- whatever the run answered
 
-module _ (script : Script) (target : Target) (pool : Pool) (old new : Connected) (w : World) (start : pool ≡ new_pool script.dialect target) (keeps : KeepsAll (record { pool = pool; connector = old }) w) (closed : Closes w new) where
-  keeps_start : KeepsAll (at_start script.dialect target old) w
+module _ (script : Script) (pool : Pool) (old new : Connected) (w : World) (start : pool ≡ new_pool script.dialect script.url) (keeps : KeepsAll (record { pool = pool; connector = old }) w) (closed : Closes w new) where
+  keeps_start : KeepsAll (at_start script.dialect script.url old) w
   keeps_start = subst (λ (p : Pool). KeepsAll (record { pool = p; connector = old }) w) start keeps
 
   pub result_runs : {X E : Type 0} (honest : Bool) (commands : List Command) (items : X → List Entry) (result : Result X E) → commands ≡ script.commands → old.opened ≡ 0 → old.returned ≡ []
-      → IfOk result (λ x. Runs honest commands (record { pool = pool; connector = old }) w (items x)) → IfOk result (λ x. RunsScript honest script old new (items x))
+      → IfOk result (λ x. RunsAll honest commands (record { pool = pool; connector = old }) w (items x)) → IfOk result (λ x. RunsScript honest script old new (items x))
   result_runs honest commands items (Err e) same opened returned runs = tt
   result_runs honest commands items (Ok x) same opened returned runs =
-      runs_script honest script target old new w (items x) opened returned keeps_start
-      (subst (λ (p : Pool). Runs honest script.commands (record { pool = p; connector = old }) w (items x)) start (subst (λ (cs : List Command). Runs honest cs (record { pool = pool; connector = old }) w (items x)) same runs)) closed
+      runs_script honest script old new w (items x) opened returned keeps_start
+      (subst (λ (p : Pool). RunsAll honest script.commands (record { pool = p; connector = old }) w (items x)) start (subst (λ (cs : List Command). RunsAll honest cs (record { pool = pool; connector = old }) w (items x)) same runs)) closed
 
-  -- each attempt was at the target of the session
-  pub attempts_at : (aim : Target) → target ≡ aim → AreAt aim old.targets → AreAt aim new.targets
-  attempts_at aim same at =
-      subst (λ (t : Target). AreAt t new.targets) same
-      (subst (AreAt target) (sym closed.targets) (keeps_start.opening.aims (subst (λ (t : Target). AreAt t old.targets) (sym same) at)))
+  -- each attempt was where the URL says
+  pub attempts_at : AreAt script.dialect script.url old.targets → AreAt script.dialect script.url new.targets
+  attempts_at at = subst (AreAt script.dialect script.url) (sym closed.targets) (keeps_start.opening.aims at)
 
   pub armed_same : new.armed ≡ old.armed
   armed_same = closed.plan ∙ keeps.opening.plan

@@ -16,7 +16,7 @@ use Rattle.conn_report.specs.declared.entry.Entry.{Entry}
 use Rattle.conn_server.specs.Connected.{Connected, takes_back}
 use Rattle.conn_session.specs.Known.{Has, OfServer, Everywhere, IsKnown, Grows, progress, with_more}
 use Rattle.conn_session.specs.Transfers.{gives_slot, in_front, puts_out, adds_out}
-use Rattle.conn_session.specs.Worlds.{World, Invariant, part, of_number}
+use Rattle.conn_session.specs.Worlds.{World, Invariant, part, of_number, sum_all}
 use Rattle.conn_session.proofs.Totals
 
 -- ---- where servers move
@@ -25,11 +25,18 @@ module _ (P : Seen → Type 0) where
   pub everywhere-handed_out : (w : World) (v : View) → Everywhere P (in_front (Some v) w) → Everywhere P (record w { pool = puts_out v.seen.number (Some v) w.pool })
   everywhere-handed_out w v h = record { slots = h.slots.1; out = Totals.all-set P w.pool.out v.seen.number (Some v) h.slots.0 h.out; returned = h.returned }
 
-  pub everywhere-opened : (w : World) (k : Connected) (v : View) → k.returned ≡ w.connector.returned → P v.seen → Everywhere P (in_front None w) → Everywhere P (record { pool = adds_out v w.pool; connector = k })
+  pub everywhere-opened : (w : World) (k : Connected) (v : View) → k.returned ≡ w.connector.returned → P v.seen → Everywhere P (in_front None w) → Everywhere P (record { pool = adds_out (Some v) w.pool; connector = k })
   everywhere-opened w k v r here h = record {
     slots = h.slots.1;
     out = Totals.all-last (OfServer P) w.pool.out (Some v) h.out here;
     returned = subst (AllByRecursion P) (sym r) h.returned;
+  }
+
+  pub everywhere-opened_back : (w : World) (k : Connected) (s : Seen) → k.returned ≡ w.connector.returned → P s → Everywhere P (in_front None w) → Everywhere P (record { pool = adds_out None (gives_slot None w.pool); connector = takes_back s k })
+  everywhere-opened_back w k s r here h = record {
+    slots = Totals.all-last (OfServer P) w.pool.slots None h.slots.1 tt;
+    out = Totals.all-last (OfServer P) w.pool.out None h.out tt;
+    returned = subst (AllByRecursion P) (sym (ap (λ (ss : List Seen). ss ++ s ∷ []) r)) (Totals.all-last P w.connector.returned s h.returned here);
   }
 
   pub everywhere-left_empty : (w : World) (k : Connected) → k.returned ≡ w.connector.returned → Everywhere P (in_front None w) → Everywhere P (record { pool = gives_slot None w.pool; connector = k })
@@ -111,6 +118,21 @@ set-twice [] n x y = refl
 set-twice (z ∷ zs) zero x y = refl
 set-twice {X = X} (z ∷ zs) (suc n) x y = ap (λ (ys : List X). z ∷ ys) (set-twice zs n x y)
 
+-- where no server has a number, what holds of each of other numbers holds of each
+pub everywhere-unopened : (P Q : Seen → Type 0) (w : World) (n : ℕ) → sum_all (of_number n) w ≡ 0 → ((s : Seen) → s.number ≢ n → P s → Q s) → Everywhere P w → Everywhere Q w
+everywhere-unopened P Q w n none f h = record {
+  slots = others (OfServer P) (OfServer Q) (part (of_number n)) w.pool.slots (omega (arith, none)) of_server h.slots;
+  out = others (OfServer P) (OfServer Q) (part (of_number n)) w.pool.out (omega (arith, none)) of_server h.out;
+  returned = others P Q (of_number n) w.connector.returned (omega (arith, none)) of_other h.returned;
+}
+  where
+    of_other : (s : Seen) → of_number n s ≡ 0 → P s → Q s
+    of_other s none p = f s (λ e. absurd (omega (arith, none, Totals.number_here n s e))) p
+
+    of_server : (o : Option View) → part (of_number n) o ≡ 0 → OfServer P o → OfServer Q o
+    of_server None none p = tt
+    of_server (Some t) none p = of_other t.seen none p
+
 -- the server of a connection that is out, and all others, which have other numbers
 pub everywhere-grown : (P Q : Seen → Type 0) (w : World) (n : ℕ) (v u : View) → Invariant w → at_number n w.pool.out ≡ Some v → Q u.seen → ((s : Seen) → s.number ≢ v.seen.number → P s → Q s)
     → Everywhere P w → Everywhere Q (record w { pool = puts_out n (Some u) w.pool })
@@ -135,7 +157,15 @@ everywhere-grown P Q w n v u holds there here f h =
     of_server None none p = tt
     of_server (Some t) none p = of_other t.seen none p
 
--- so did its logs
+-- the log of a server that was just opened grew from nothing: all others have the logs that they had
+pub known_opened : (logs : ServerLogs) (items : List Item) (w : World) → Invariant w → IsKnown logs w → Everywhere (Has w.pool.dialect w.connector.armed (with_more logs (only w.connector.opened items))) w
+known_opened logs items w holds known =
+    let n = w.connector.opened in
+    let other : (k : ℕ) → k ≢ n → with_more logs (only n items) k ≡ logs k = λ k e. ap (λ (t : List Item). logs k ++ t) (only_other n k items e) ∙ append-nil (logs k) in
+    everywhere-unopened (Has w.pool.dialect w.connector.armed logs) (Has w.pool.dialect w.connector.armed (with_more logs (only n items))) w n (holds.accounts.none n (omega arith))
+    (λ s e h. has_same w.pool.dialect w.connector.armed logs (with_more logs (only n items)) s (other s.number e) h) known.servers
+
+-- so did the log of a connection's server
 pub known_grown : (logs : ServerLogs) (items : List Item) (w : World) (n : ℕ) (v u : View) → Invariant w → at_number n w.pool.out ≡ Some v → Has w.pool.dialect w.connector.armed (with_more logs (only v.seen.number items)) u.seen → IsKnown logs w
     → IsKnown (with_more logs (only v.seen.number items)) (record w { pool = puts_out n (Some u) w.pool })
 known_grown logs items w n v u holds there has known =

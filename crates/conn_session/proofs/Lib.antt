@@ -8,6 +8,7 @@ pub mod Puts
 pub mod Aims
 pub mod Honest
 pub mod Gets
+pub mod Setups
 pub mod Responses
 pub mod BlockAnswers
 pub mod Deeds

@@ -7,12 +7,10 @@ use Rattle.std.proofs.lemmas.List.{length_push}
 use Rattle.std.proofs.Math.ListN.{length-set}
 use Rattle.conn_model.specs.Seen.{Seen}
 use Rattle.conn_manager.specs.Views.{View}
-use Rattle.conn_manager.specs.declared.instrumentation.NoInstrumentation.{NoInstrumentation}
 use Rattle.conn_reading.specs.Seats.{at_number}
 use Rattle.conn_server.specs.Connected.{Connected, takes_back}
-use Rattle.conn_session.specs.Transfers.{TakesSlot, gives_slot, in_front, puts_out, adds_out}
-use Rattle.conn_session.specs.Worlds.{Pool, World, Accounts, Invariant, part, sum_all, of_number, each_server, view_of, views_of, pool_of, world_of}
-use Rattle.conn_session.specs.declared.connection.ServerConnection.{ServerConnection}
+use Rattle.conn_session.specs.Transfers.{TakesSlot, gives_slot, in_front, puts_out, adds_out, fills_places}
+use Rattle.conn_session.specs.Worlds.{Pool, World, Accounts, Invariant, part, sum_all, of_number, each_server, views_of, pool_of, world_of}
 use Rattle.conn_session.specs.declared.session.Session.{Session}
 use Rattle.conn_session.proofs.Totals
 
@@ -60,9 +58,9 @@ handed_out w v h =
 
 -- a connection was opened for the empty slot in front
 pub opened_out : (w : World) (k : Connected) (v : View) → v.seen.number ≡ w.connector.opened → k.opened ≡ w.connector.opened + 1 → k.returned ≡ w.connector.returned → k.room ≡ w.connector.room + 1 → Invariant (in_front None w)
-    → Invariant (record { pool = adds_out v w.pool; connector = k })
+    → Invariant (record { pool = adds_out (Some v) w.pool; connector = k })
 opened_out w k v numbered o r room h =
-    let new : World = record { pool = adds_out v w.pool; connector = k } in
+    let new : World = record { pool = adds_out (Some v) w.pool; connector = k } in
     let back : (f : Seen → ℕ) → sum_by f k.returned ≡ sum_by f w.connector.returned = λ f. ap (sum_by f) r in
     let sums : (f : Seen → ℕ) → sum_by (part f) (w.pool.out ++ Some v ∷ []) ≡ sum_by (part f) w.pool.out + f v.seen = λ f. Totals.sum-last f w.pool.out (Some v) in
     let front : (f : Seen → ℕ) → sum_by (part f) (None ∷ w.pool.slots) ≡ 0 + sum_by (part f) w.pool.slots = λ f. Totals.sum-first f w.pool.slots None in
@@ -79,6 +77,35 @@ opened_out w k v numbered o r room h =
       slots = omega (arith, h.slots, sums each_server);
       room = omega (arith, h.room, sums each_server, front each_server);
     }
+
+-- a server was opened and is back, and the empty slot in front went to the back
+pub opened_back : (w : World) (k : Connected) (s : Seen) → s.number ≡ w.connector.opened → k.opened ≡ w.connector.opened + 1 → k.returned ≡ w.connector.returned → k.room ≡ w.connector.room + 1 → Invariant (in_front None w)
+    → Invariant (record { pool = adds_out None (gives_slot None w.pool); connector = takes_back s k })
+opened_back w k s numbered o r room h =
+    let back : (f : Seen → ℕ) → sum_by f (k.returned ++ s ∷ []) ≡ sum_by f w.connector.returned + f s = λ f. ap (λ (ss : List Seen). sum_by f (ss ++ s ∷ [])) r ∙ Totals.sum-last_seen f w.connector.returned s in
+    let out : (f : Seen → ℕ) → sum_by (part f) (w.pool.out ++ None ∷ []) ≡ sum_by (part f) w.pool.out + 0 = λ f. Totals.sum-last f w.pool.out None in
+    let slots : (f : Seen → ℕ) → sum_by (part f) (w.pool.slots ++ None ∷ []) ≡ sum_by (part f) w.pool.slots + 0 = λ f. Totals.sum-last f w.pool.slots None in
+    let front : (f : Seen → ℕ) → sum_by (part f) (None ∷ w.pool.slots) ≡ 0 + sum_by (part f) w.pool.slots = λ f. Totals.sum-first f w.pool.slots None in
+    record {
+      accounts = record {
+        once = λ n l. elim (cases_lt n w.connector.opened) [
+          | inl lt ↦ omega (arith, h.accounts.once n lt, out (of_number n), slots (of_number n), back (of_number n), front (of_number n), Totals.number_other n s (omega arith))
+          | inr le ↦ omega (arith, h.accounts.none n le, out (of_number n), slots (of_number n), back (of_number n), front (of_number n), Totals.number_here n s (omega arith))
+        ];
+        none = λ n l. omega (arith, h.accounts.none n (omega arith), out (of_number n), slots (of_number n), back (of_number n), front (of_number n), Totals.number_other n s (omega arith));
+      };
+      places = length_push w.pool.out None ∙ omega (arith, h.places);
+      placed = Totals.placed-none 0 w.pool.out h.placed;
+      slots = omega (arith, h.slots, out each_server, length_push w.pool.slots None);
+      room = omega (arith, h.room, out each_server, slots each_server, front each_server);
+    }
+
+-- each server that was opened has its place, or gets one
+pub places_filled : (p : Pool) (opened : ℕ) → length p.out ≡ opened → fills_places opened p ≡ p
+places_filled p opened e = grind arith
+
+pub place_filled : (p : Pool) (opened : ℕ) → length p.out + 1 ≡ opened → fills_places opened p ≡ adds_out None p
+place_filled p opened e = grind arith
 
 -- the empty slot in front went to the back
 pub left_empty : (w : World) (k : Connected) → k.opened ≡ w.connector.opened → k.returned ≡ w.connector.returned → k.room ≡ w.connector.room → Invariant (in_front None w) → Invariant (record { pool = gives_slot None w.pool; connector = k })
@@ -158,9 +185,9 @@ pub room_is_there : (w : World) (n : ℕ) (v : View) → at_number n w.pool.out 
 room_is_there w n v there h = omega (arith, h.room, Totals.sum-at each_server w.pool.out n v there)
 
 -- the same of code: memory was taken for a place, and then the slot, which has a connection
-pub front_is : {S : Type 0} (seen : S → Seen) (old mid : Session S) (out : List (Option (ServerConnection S NoInstrumentation))) (k : Connected) (slot : Option (ServerConnection S NoInstrumentation)) (c : ServerConnection S NoInstrumentation)
-    → out ≡ old.out.items → slot ≡ Some c → TakesSlot (record (pool_of seen old) { out = views_of seen out }) (pool_of seen mid) (Some (option_map (view_of seen) slot)) → world_of seen old k ≡ in_front (Some (view_of seen c)) (world_of seen mid k)
-front_is {S = S} seen old mid out k slot c same has taken =
-    front_taken (pool_of seen old) (pool_of seen mid) k (Some (view_of seen c))
-    (subst (λ (o : List (Option (ServerConnection S NoInstrumentation))). TakesSlot (record (pool_of seen old) { out = views_of seen o }) (pool_of seen mid) (Some (Some (view_of seen c)))) same
-    (subst (λ (o : Option (ServerConnection S NoInstrumentation)). TakesSlot (record (pool_of seen old) { out = views_of seen out }) (pool_of seen mid) (Some (option_map (view_of seen) o))) has taken))
+pub front_is : {C : Type 0} (view : C → View) (old mid : Session C) (out : List (Option C)) (k : Connected) (slot : Option C) (c : C)
+    → out ≡ old.out.items → slot ≡ Some c → TakesSlot (record (pool_of view old) { out = views_of view out }) (pool_of view mid) (Some (option_map view slot)) → world_of view old k ≡ in_front (Some (view c)) (world_of view mid k)
+front_is {C = C} view old mid out k slot c same has taken =
+    front_taken (pool_of view old) (pool_of view mid) k (Some (view c))
+    (subst (λ (o : List (Option C)). TakesSlot (record (pool_of view old) { out = views_of view o }) (pool_of view mid) (Some (Some (view c)))) same
+    (subst (λ (o : Option C). TakesSlot (record (pool_of view old) { out = views_of view out }) (pool_of view mid) (Some (option_map view o))) has taken))

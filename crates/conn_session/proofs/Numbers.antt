@@ -1,5 +1,5 @@
 -- Connections at the places of their numbers.
-use Rattle.std.proofs.Common.{◌≡◌, ℕ, zero, suc, ◌<◌, ◌≤◌, List, [], ◌∷◌, length, get_or, map, Option, None, refl, ap, arith}
+use Rattle.std.proofs.Common.{◌≡◌, ℕ, zero, suc, ◌<◌, ◌≤◌, List, [], ◌∷◌, length, get_or, map, Option, Some, None, refl, ap, arith}
 use Rattle.std.specs.Prelude.{slice_set}
 use Rattle.std.specs.Option.{option_map}
 use Rattle.conn_reading.specs.Seats.{at_number}
@@ -18,6 +18,12 @@ pub at_number-within : {A : Type 0} (n : ℕ) (xs : List (Option A)) (d : Option
 at_number-within n [] d l = absurd (omega arith)
 at_number-within zero (x ∷ xs) d l = refl
 at_number-within (suc n) (x ∷ xs) d l = at_number-within n xs d (omega arith)
+
+-- what was set at a number that was taken stands there
+pub at_number-set : {A : Type 0} (n : ℕ) (xs : List (Option A)) (x : A) (y : Option A) → at_number n xs ≡ Some x → at_number n (slice_set xs n y) ≡ y
+at_number-set n [] x y e = absurd (cc e)
+at_number-set zero (z ∷ zs) x y e = refl
+at_number-set (suc n) (z ∷ zs) x y e = at_number-set n zs x y e
 
 pub map-slice_set : {X Y : Type 0} (f : X → Y) (xs : List X) (i : ℕ) (x : X) → map f (slice_set xs i x) ≡ slice_set (map f xs) i (f x)
 map-slice_set f [] i x = refl

@@ -9,7 +9,8 @@ use Rattle.conn_report.specs.declared.entry.Entry.{Entry}
 use Rattle.conn_report.specs.declared.entry.Reply.TheVariants as replies
 use Rattle.conn_script.specs.declared.request.Request.TheVariants.{Put}
 use Rattle.conn_script.specs.declared.command.Word.TheVariants as words
-use Rattle.conn_server.specs.Connected.{AreAt, takes_back}
+use Rattle.conn_drivers.specs.Establishing.{AreAt}
+use Rattle.conn_server.specs.Connected.{takes_back}
 use Rattle.conn_session.specs.Known.{Has, IsKnown, progress}
 use Rattle.conn_session.specs.Transfers.{gives_slot, puts_out}
 use Rattle.conn_session.specs.Plays.{PlaysPut}
@@ -44,13 +45,13 @@ module _ (honest : Bool) (line n : ℕ) (w : World) (entry : Entry) where
   -- what is said of both ways to give a connection back
   module _ (v : View) (new : World) (there : at_number n w.pool.out ≡ Some v) (entry_is : entry ≡ entry_on line words.Put (put_reply v.status) (seat_of v)) where
     given_back : context_of new ≡ record (context_of w) { slots = (context_of w).slots ++ put_slot (seat_of v) ∷ []; out = slice_set (context_of w).out n None } → Invariant new → IsLater w new → new.pool.blocks ≡ w.pool.blocks
-        → progress new ≡ record (progress w) { context = context_of new } → new.pool.dialect ≡ w.pool.dialect → new.pool.target ≡ w.pool.target → new.pool.size ≡ w.pool.size → new.connector.targets ≡ w.connector.targets → new.connector.armed ≡ w.connector.armed
+        → progress new ≡ record (progress w) { context = context_of new } → new.pool.dialect ≡ w.pool.dialect → new.pool.url ≡ w.pool.url → new.pool.size ≡ w.pool.size → new.connector.targets ≡ w.connector.targets → new.connector.armed ≡ w.connector.armed
         → ((logs : ServerLogs) → IsKnown logs w → IsKnown logs new) → Steps honest line (Put n) w new (Ok entry)
     given_back shown holds counts blocks progress_is d t s a p kept = record {
       keeps = record {
         holds = holds;
         counts = counts;
-        opening = record { dialect = d; target = t; size = s; plan = p; aims = λ h. subst (AreAt w.pool.target) (sym a) h };
+        opening = record { dialect = d; url = t; size = s; plan = p; aims = λ h. subst (AreAt w.pool.dialect w.pool.url) (sym a) h };
       };
       plays_entry = subst (PlaysPut line n (context_of w) entry (context_of new)) (sym (seats-at w.pool.out n (Some v) there)) (record { entry_is = entry_is; context_is = shown });
       caused = λ b. (no_cause w new entry (put_reply v.status) (ap (λ (e : Entry). e.reply) entry_is) (put_not_refused v.status) (put_not_unopened v.status), blocks_later w new blocks counts b);

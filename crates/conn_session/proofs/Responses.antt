@@ -1,16 +1,18 @@
 -- A connection that asked what a deed asks, and made its reply of the answer, does as the deed promises.
-use Rattle.std.proofs.Common.{◌≡◌, ◌≢◌, ℕ, Bool, List, [], ◌∷◌, Option, Some, None, sym, ap, subst, Ok, Err, Result, inl, inr, IfOk}
+use Rattle.std.proofs.Common.{◌≡◌, ◌≢◌, ℕ, Bool, List, [], ◌∷◌, Option, Some, None, refl, sym, ap, subst, Ok, Err, Result, inl, inr, IfOk}
 use Rattle.std.specs.Prelude.{IsErr, ◌↔◌}
 use Rattle.std.specs.declared.alloc.AllocError.{AllocError}
 use Rattle.conn_result.specs.declared.error.Error.{Error}
 use Rattle.conn_result.specs.declared.error.Error.TheVariants.{OutOfMemory}
 use Rattle.conn_model.specs.Acts.{Acts, IsSameServer}
-use Rattle.conn_model.specs.Process.{Sent, Follows}
+use Rattle.conn_model.specs.Nuls.{nul_place, nul_fault}
+use Rattle.conn_model.specs.Process.{Stop, Sent, Follows}
+use Rattle.conn_model.proofs.NulFree.{fault_place}
 use Rattle.conn_model.specs.Seen.{Seen}
 use Rattle.conn_model.specs.declared.item.Dialect.{Dialect}
 use Rattle.conn_model.specs.declared.item.Refusal.{Refusal}
 use Rattle.conn_model.proofs.Mapped.{acts_map}
-use Rattle.conn_manager.specs.Manages.{Done, done, Reply as Answer, HasServerCause, IsRefusal, send_process}
+use Rattle.conn_manager.specs.Manages.{Done, done, Reply as Answer, HasServerCause, IsRefusal, try_text}
 use Rattle.conn_manager.specs.Statuses.{Status, reply_of}
 use Rattle.conn_manager.specs.Views.{View, ActsOrMemoryFrom}
 use Rattle.conn_reading.specs.Asking.{outcome, call_process, process_of, reply_as, told_as}
@@ -19,15 +21,18 @@ use Rattle.conn_reading.specs.declared.deed.Deed.TheVariants as deeds
 use Rattle.conn_report.specs.declared.entry.Reply.{Reply}
 use Rattle.conn_session.specs.Responses.{Replies, Does, IsAnswer, IsErrorOf, CountsRefusal, IsRefused}
 
--- a text is answered by its server alone
-text_answered : (d : Dialect) (text : List ℕ) (s : Status) (sent : List Sent) (a : Done) → Follows (send_process d text s) sent a → (refusal : Option Refusal) × (a.reply ≡ reply_of refusal)
-text_answered d text s [] a h = absurd h
-text_answered d text s (i ∷ []) a h = (i.heard.refusal, ap (λ (x : Done). x.reply) h.1)
-text_answered d text s (i ∷ j ∷ is) a h = absurd h.1
-
 server_error : (text : List ℕ) (answer : Answer) (refusal : Option Refusal) → answer ≡ reply_of refusal → IsAnswer (deeds.Batch text) (reply_as answer)
 server_error text answer None e = subst (λ (a : Answer). IsAnswer (deeds.Batch text) (reply_as a)) (sym e) tt
 server_error text answer (Some r) e = subst (λ (a : Answer). IsAnswer (deeds.Batch text) (reply_as a)) (sym e) tt
+
+-- a text is answered by its server, or stopped by its NUL
+text_answered : (d : Dialect) (text : List ℕ) (place : Option ℕ) (s : Status) (sent : List Sent) (a : Done) → ((n : ℕ) → place ≡ Some n → nul_place text ≡ Some n) → Follows (try_text place d text s (λ r s1. Stop (done r s1))) sent a
+    → IsAnswer (deeds.Batch text) (reply_as a.reply)
+text_answered d text None s [] a nul h = absurd h
+text_answered d text None s (i ∷ []) a nul h = server_error text a.reply i.heard.refusal (ap (λ (x : Done). x.reply) h.1)
+text_answered d text None s (i ∷ j ∷ is) a nul h = absurd h.1
+text_answered d text (Some n) s [] a nul h = subst (λ (x : Done). IsAnswer (deeds.Batch text) (reply_as x.reply)) (sym h) (nul n refl)
+text_answered d text (Some n) s (i ∷ is) a nul h = absurd h
 
 -- a call of the manager answers any error but want of memory
 call_answered : (deed : Deed) (answer : Answer) → ((e : Error) → e ≢ OutOfMemory → IsErrorOf deed e) → answer ≢ Err OutOfMemory → IsAnswer deed (reply_as answer)
@@ -35,7 +40,7 @@ call_answered deed (Ok u) errors memory = tt
 call_answered deed (Err e) errors memory = errors e (λ same. memory (ap (λ (x : Error). Err x) same))
 
 is_answer : (deed : Deed) (d : Dialect) (s t : Status) (sent : List Sent) (answer : Answer) → answer ≢ Err OutOfMemory → Follows (call_process deed d s) sent (done answer t) → IsAnswer deed (reply_as answer)
-is_answer (deeds.Batch text) d s t sent answer memory h = (let a = text_answered d text s sent (done answer t) h in server_error text answer a.0 a.1)
+is_answer (deeds.Batch text) d s t sent answer memory h = text_answered d text (nul_fault d text) s sent (done answer t) (fault_place d text) h
 is_answer deeds.Begin d s t sent answer memory h = call_answered deeds.Begin answer (λ e m. m) memory
 is_answer deeds.Commit d s t sent answer memory h = call_answered deeds.Commit answer (λ e m. m) memory
 is_answer deeds.Rollback d s t sent answer memory h = call_answered deeds.Rollback answer (λ e m. m) memory

@@ -3,14 +3,11 @@ use Rattle.std.proofs.Common.{◌≡◌, ℕ, ◌<◌, List, [], ◌∷◌, ◌+
 use Rattle.std.specs.Prelude.{slice_set}
 use Rattle.std.specs.Option.{option_map}
 use Rattle.std.proofs.lemmas.List.{map-append}
-use Rattle.conn_model.specs.Seen.{Seen}
 use Rattle.conn_manager.specs.Views.{View}
-use Rattle.conn_manager.specs.declared.instrumentation.NoInstrumentation.{NoInstrumentation}
 use Rattle.conn_reading.specs.Seats.{Seat, at_number}
 use Rattle.conn_session.specs.Transfers.{gives_slot, puts_out}
 use Rattle.conn_session.specs.Responses.{seat_of}
-use Rattle.conn_session.specs.Worlds.{World, view_of, views_of, pool_of, seats_of, context_of}
-use Rattle.conn_session.specs.declared.connection.ServerConnection.{ServerConnection}
+use Rattle.conn_session.specs.Worlds.{World, views_of, pool_of, seats_of, context_of}
 use Rattle.conn_session.specs.declared.session.Session.{Session}
 use Rattle.conn_session.proofs.Numbers.{at_number-map, at_number-within, map-slice_set}
 
@@ -36,10 +33,10 @@ context-gives_slot w n o s =
 
 -- ---- of code
 
-module _ {S : Type 0} (seen : S → Seen) where
+module _ {C : Type 0} (view : C → View) where
   -- one place of those that are out was written
-  pub pool-with_item : (s : Session S) (n : ℕ) (place : Option (ServerConnection S NoInstrumentation)) → record (pool_of seen s) { out = views_of seen (slice_set s.out.items n place) } ≡ puts_out n (option_map (view_of seen) place) (pool_of seen s)
-  pool-with_item s n place = ap (λ (out : List (Option View)). record (pool_of seen s) { out = out }) (map-slice_set (option_map (view_of seen)) s.out.items n place)
+  pub pool-with_item : (s : Session C) (n : ℕ) (place : Option C) → record (pool_of view s) { out = views_of view (slice_set s.out.items n place) } ≡ puts_out n (option_map view place) (pool_of view s)
+  pool-with_item s n place = ap (λ (out : List (Option View)). record (pool_of view s) { out = out }) (map-slice_set (option_map view) s.out.items n place)
 
 -- what stands at a number
 pub place-at : {A B : Type 0} (f : A → B) (n : ℕ) (xs : List (Option A)) (place : Option A) → n < length xs → place ≡ get_or xs n place → at_number n (map (option_map f) xs) ≡ option_map f place

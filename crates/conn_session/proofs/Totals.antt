@@ -101,6 +101,11 @@ placed-last k [] v e p = (e ∙ omega arith, tt)
 placed-last k (None ∷ vs) v e p = placed-last (suc k) vs v (e ∙ omega arith) p
 placed-last k (Some u ∷ vs) v e p = (p.0, placed-last (suc k) vs v (e ∙ omega arith) p.1)
 
+pub placed-none : (k : ℕ) (vs : List (Option View)) → ArePlaced k vs → ArePlaced k (vs ++ None ∷ [])
+placed-none k [] p = tt
+placed-none k (None ∷ vs) p = placed-none (suc k) vs p
+placed-none k (Some u ∷ vs) p = (p.0, placed-none (suc k) vs p.1)
+
 -- ---- measures of one server
 
 pub number_here : (n : ℕ) (s : Seen) → s.number ≡ n → of_number n s ≡ 1

@@ -8,7 +8,7 @@ use Rattle.conn_result.specs.declared.error.Error.{Error}
 use Rattle.conn_manager.specs.Manages.{IsRefusal, Reply as Answer}
 use Rattle.conn_manager.specs.Views.{View}
 use Rattle.conn_reading.specs.Answered.{ServerLogs, Progress, Taken, taken, reads_on, reads_by_deed, reads_deed, skip_entry, with_blocks}
-use Rattle.conn_reading.specs.Blocks.{block_on, plain_deed, if_live, closing, deed_in, deed_of, opened_by, with_refusal, blocks_told, without_block, blocks_after}
+use Rattle.conn_reading.specs.Blocks.{block_on, plain_deed, if_live, closing, deed_in, deed_of, opening_state, with_refusal, blocks_told, without_block, blocks_after}
 use Rattle.conn_reading.specs.Seats.{Seat, at_number}
 use Rattle.conn_reading.specs.declared.blocks.Block.{Block}
 use Rattle.conn_reading.specs.declared.blocks.BlockState.{BlockState}
@@ -18,13 +18,14 @@ use Rattle.conn_report.specs.declared.entry.Entry.{Entry}
 use Rattle.conn_report.specs.declared.entry.Reply.{Reply}
 use Rattle.conn_report.specs.declared.entry.Reply.TheVariants as replies
 use Rattle.conn_script.specs.Requests.{verb_word}
+use Rattle.conn_script.specs.declared.command.Word.{Word}
 use Rattle.conn_script.specs.declared.request.Request.TheVariants.{On}
 use Rattle.conn_script.specs.declared.request.Verb.{Verb}
 use Rattle.conn_script.specs.declared.request.Verb.TheVariants as verbs
 use Rattle.conn_session.specs.Known.{IsKnown, Grows, progress}
 use Rattle.conn_session.specs.Plays.{PlaysDeed}
 use Rattle.conn_session.specs.Responses.{IsBlocks, IsRefused, seat_of}
-use Rattle.conn_session.specs.Steps.{DoesOn, IsCausedState, AreBlocksCaused, KeepsAll, Steps, StepsDeed}
+use Rattle.conn_session.specs.Steps.{DoesOn, IsCausedState, AreBlocksCaused, KeepsAll, Steps, StepsDeed, AnswersVerb, entry_at}
 use Rattle.conn_session.specs.Transfers.{tells_blocks}
 use Rattle.conn_session.specs.Worlds.{World, Invariant, context_of, refusals, sum_all}
 use Rattle.conn_session.proofs.Counts.{no_cause, blocks_later, later-refl, opening-refl}
@@ -93,7 +94,7 @@ module _ (counts : ℕ → ℕ) (n : ℕ) (reply : Reply) where
 
   -- ---- and so are those of the blocks that it tells
 
-  opened_caused : (reply : Reply) → IsCausedState counts n (opened_by reply)
+  opened_caused : (reply : Reply) → IsCausedState counts n (opening_state reply)
   opened_caused replies.Ok = tt
   opened_caused replies.Kept = tt
   opened_caused replies.Closed = tt
@@ -225,13 +226,26 @@ module _ (honest : Bool) (line n : ℕ) (verb : Verb) (w : World) where
       skip_on None e = refl
       skip_on (Some seat) e = ap (λ (k : ℕ). Some k) (seat_numbered w n seat e holds)
 
+  -- as its entry says
+  pub skips_by : None ≡ deed_of (block_on n w.pool.blocks) verb → Invariant w → StepsDeed honest line n verb w w (Ok (entry_at line (verb_word verb) n replies.Skipped (at_number n (context_of w).out)))
+  skips_by is holds = skips (entry_at line (verb_word verb) n replies.Skipped (at_number n (context_of w).out)) is (by_place (at_number n (context_of w).out)) holds
+    where
+      by_place : (o : Option Seat) → entry_at line (verb_word verb) n replies.Skipped o ≡ skip_entry line (verb_word verb) n o
+      by_place None = refl
+      by_place (Some seat) = refl
+
 -- ---- and then its reply tells the blocks
+
+-- an entry has its reply
+entry_at-reply : (line : ℕ) (word : Word) (n : ℕ) (reply : Reply) (o : Option Seat) → (entry_at line word n reply o).reply ≡ reply
+entry_at-reply line word n reply None = refl
+entry_at-reply line word n reply (Some seat) = refl
 
 told_keeps : (n : ℕ) (verb : Verb) (reply : Reply) (old mid : World) → KeepsAll old mid → KeepsAll old (tells_blocks n verb reply mid)
 told_keeps n verb reply old mid k = record {
   holds = record { accounts = record { once = k.holds.accounts.once; none = k.holds.accounts.none }; places = k.holds.places; placed = k.holds.placed; slots = k.holds.slots; room = k.holds.room };
   counts = record { later = k.counts.later; refusals_later = k.counts.refusals_later };
-  opening = record { dialect = k.opening.dialect; target = k.opening.target; size = k.opening.size; plan = k.opening.plan; aims = k.opening.aims };
+  opening = record { dialect = k.opening.dialect; url = k.opening.url; size = k.opening.size; plan = k.opening.plan; aims = k.opening.aims };
 }
 
 told_known : (n : ℕ) (verb : Verb) (reply : Reply) (logs : ServerLogs) (w : World) → IsKnown logs w → IsKnown logs (tells_blocks n verb reply w)
@@ -267,3 +281,12 @@ module _ (honest : Bool) (line n : ℕ) (verb : Verb) (old mid : World) where
     where
       same_number : (m : ℕ) → Some m ≡ Some n → m ≡ n
       same_number m e = cc
+
+  -- the same by its reply
+  pub told_reply : (reply : Reply) (blocks : List Block) (entry : Entry) → blocks ≡ blocks_after n verb reply mid.pool.blocks → entry ≡ entry_at line (verb_word verb) n reply (at_number n (context_of mid).out)
+      → AnswersVerb honest n verb old mid (Ok reply) → Steps honest line (On n verb) old (record mid { pool = record mid.pool { blocks = blocks } }) (Ok entry)
+  told_reply reply blocks entry after entry_is answers =
+      let reply_is : entry.reply ≡ reply = ap (λ (e : Entry). e.reply) entry_is ∙ entry_at-reply line (verb_word verb) n reply (at_number n (context_of mid).out) in
+      let after_entry : blocks ≡ blocks_after n verb entry.reply mid.pool.blocks = after ∙ ap (λ (r : Reply). blocks_after n verb r mid.pool.blocks) (sym reply_is) in
+      subst (λ (bs : List Block). Steps honest line (On n verb) old (record mid { pool = record mid.pool { blocks = bs } }) (Ok entry)) (sym after_entry)
+      (told_step entry (subst (λ (e : Entry). StepsDeed honest line n verb old mid (Ok e)) (sym entry_is) (answers line)))

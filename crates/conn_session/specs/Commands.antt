@@ -8,10 +8,9 @@ use Rattle.conn_model.specs.Obeyed.{Obeys}
 use Rattle.conn_model.specs.States.{State, Writes, state_of, kept}
 use Rattle.conn_model.specs.declared.item.Dialect.{Dialect}
 use Rattle.conn_model.specs.declared.item.Item.{Item}
-use Rattle.conn_model.specs.declared.item.Dialect.TheVariants.{Sqlite}
 use Rattle.conn_reading.specs.Answered.{ServerLogs, answered, servers_opened}
 use Rattle.conn_reading.specs.Folds.{refuses_transaction}
-use Rattle.conn_reading.specs.Sessions.{EachVerdict, EachStandsOver, EachClean, EntryPremises, EachNested, is_opened, fold_entries, unfolded}
+use Rattle.conn_reading.specs.Sessions.{EachVerdict, EachStandsOver, EachClean, EntryPremises, PremisesLeft, EachNested, is_opened, fold_entries, unfolded}
 use Rattle.conn_report.specs.declared.entry.Entry.{Entry}
 use Rattle.conn_report.specs.declared.entry.Transcript.{Transcript}
 use Rattle.conn_report.specs.Report.{report}
@@ -20,8 +19,8 @@ use Rattle.conn_script.specs.declared.command.Command.{Command}
 use Rattle.conn_script.specs.declared.command.Script.{Script}
 use Rattle.conn_script.specs.declared.command.SessionError.{SessionError}
 use Rattle.conn_script.specs.declared.command.SessionError.TheVariants.{BadScript, OutOfMemory}
-use Rattle.conn_model.specs.declared.plan.Target.TheVariants.{Url}
-use Rattle.conn_server.specs.Connected.{Connected, AreAt, writes_by}
+use Rattle.conn_drivers.specs.Establishing.{AreAt, url_fault}
+use Rattle.conn_server.specs.Connected.{Connected, writes_by}
 use Rattle.conn_server.specs.Ordered.{planned}
 use Rattle.conn_session.specs.Accounts.{logs_of, servers_of}
 use Rattle.conn_session.specs.Plays.{IsPlayed}
@@ -60,10 +59,11 @@ FoldsOf d logs commands entries n =
     is_opened n entries ≡ true → EntryPremises d n (logs n) commands entries
     → kept_by d (logs n) ≡ Some (fold_entries n (logs n) commands entries unfolded).stack.lowest
 
--- on SQLite these premises hold of each server that was opened and refused no text of a transaction
+-- these premises hold of each server that was opened and refused no text of a transaction, where what the dialect leaves of them does
 abbrev pub HasPremises : Dialect → ServerLogs → List Command → List Entry → ℕ → Type 0
-HasPremises d logs commands entries n = d ≡ Sqlite → is_opened n entries ≡ true
-    → list_any refuses_transaction (logs n) ≡ false → EntryPremises d n (logs n) commands entries
+HasPremises d logs commands entries n = is_opened n entries ≡ true
+    → list_any refuses_transaction (logs n) ≡ false → PremisesLeft d n (logs n) commands entries
+    → EntryPremises d n (logs n) commands entries
 
 -- the logs bear the entries out: each status up to its mark, each depth over its server, no open transaction but a test's where
 -- `get` hands out; and
@@ -75,7 +75,7 @@ pub record AreBorneOutBy (d : Dialect) (logs : ServerLogs) (commands : List Comm
   pub nested : (n : ℕ) → EntryPremises d n (logs n) commands entries
       → EachNested d n (logs n) commands entries unfolded
   pub folds : (n : ℕ) → FoldsOf d logs commands entries n
-  pub on_sqlite : (n : ℕ) → HasPremises d logs commands entries n
+  pub premises : (n : ℕ) → HasPremises d logs commands entries n
 
 -- so do the logs of the servers that are back
 abbrev pub AreBorneOut : Script → Connected → List Entry → Type 0
@@ -94,7 +94,7 @@ AreCaused old k = AllByRecursion (IsCausedBy (λ n. sum_by (refusals n) k.return
 -- the commands of a script were run, and all servers are back; over an honest connector that was armed with the script's plan
 -- the logs answer the entries
 pub record RunsScript (honest : Bool) (script : Script) (old k : Connected) (entries : List Entry) : Type 0 where
-  pub played : IsPlayed script.commands entries
+  pub played : IsPlayed (url_fault script.dialect script.url) script.commands entries
   pub caused : AreCaused old k entries
   pub answered : honest ≡ true → old.attempts ≡ 0 → old.armed ≡ script.plan → IsAnswered script k entries
   pub kept : honest ≡ true → EachTold script.dialect k (λ n. writes_by true n k.returned)
@@ -104,10 +104,10 @@ pub record RunsScript (honest : Bool) (script : Script) (old k : Connected) (ent
 -- URL, where the connector tells its targets; an honest connector was armed with the script's plan, and its servers' logs answer
 -- the entries to the script and bear them out, and keep the writes that are told, none of them untold
 pub record Transcribes (honest tells : Bool) (script : Script) (old k : Connected) (t : Transcript) : Type 0 where
-  pub entries : IsPlayed script.commands t.entries
+  pub entries : IsPlayed (url_fault script.dialect script.url) script.commands t.entries
   pub servers : t.servers ≡ servers_of tells k.opened k.returned
   pub caused : AreCaused old k t.entries
-  pub aimed : AreAt (Url script.url) old.targets → AreAt (Url script.url) k.targets
+  pub aimed : AreAt script.dialect script.url old.targets → AreAt script.dialect script.url k.targets
   pub armed : honest ≡ true → k.armed ≡ script.plan
   pub answered : honest ≡ true → IsAnswered script k t.entries
   pub kept : honest ≡ true → EachTold script.dialect k (told_at t.servers)

@@ -1,7 +1,8 @@
 -- What the commands of a session may give, whatever its servers answer.
 use Rattle.std.specs.Prelude.{ℕ, ◌+◌, ◌≡◌, ◌⊎◌, ℤ, List, [], ◌∷◌, ◌++◌, Option, Some, None, slice_set}
-use Rattle.conn_result.specs.declared.error.ConnectionError.TheVariants.{BadConnection}
-use Rattle.conn_manager.specs.Statuses.{no_depth}
+use Rattle.conn_result.specs.declared.error.ConnectionError.{ConnectionError}
+use Rattle.conn_result.specs.declared.error.ConnectionError.TheVariants.{BadConnection, CouldntSetupConfiguration}
+use Rattle.conn_result.specs.declared.error.Error.{Error}
 use Rattle.conn_report.specs.declared.entry.Entry.{Entry}
 use Rattle.conn_report.specs.declared.entry.Reply.{Reply}
 use Rattle.conn_report.specs.declared.entry.Reply.TheVariants as replies
@@ -14,25 +15,39 @@ use Rattle.conn_script.specs.declared.request.Request.TheVariants.{Get, Put, On}
 use Rattle.conn_script.specs.declared.request.Verb.{Verb}
 use Rattle.conn_reading.specs.Answered.{skip_entry}
 use Rattle.conn_reading.specs.Blocks.{block_on, blocks_after, deed_of}
-use Rattle.conn_reading.specs.Seats.{Seat, Context, at_first, at_number, entry_on, entry_without, put_reply, put_slot}
+use Rattle.conn_reading.specs.Seats.{Seat, Context, at_first, at_number, make_entry, entry_on, entry_without, put_reply, put_slot}
 use Rattle.conn_reading.specs.declared.deed.Deed.{Deed}
-use Rattle.conn_session.specs.Responses.{IsAnswer}
+use Rattle.conn_session.specs.Responses.{IsAnswer, IsServerError}
 
 -- ---- get and put
 
--- the empty slot in front was filled: the connection has the least number not used yet and no depth
+-- the empty slot in front was filled: the connection has the least number not used yet
 pub record FillsSlot (line : ℕ) (rest : List (Option Seat)) (old : Context) (entry : Entry) (new : Context) : Type 0 where
   pub seat : Seat
   pub numbered : seat.number ≡ old.opened
-  pub status : seat.status ≡ no_depth
   pub entry_is : entry ≡ entry_on line words.Get replies.Ok seat
   pub context_is : new ≡ record old { slots = rest; out = old.out ++ Some seat ∷ []; opened = old.opened + 1 }
 
--- the connector refused: the slot is at the back, still empty
-pub record KeepsSlotEmpty (line : ℕ) (rest : List (Option Seat)) (old : Context) (entry : Entry) (new : Context) : Type 0 where
-  pub code : ℤ
-  pub entry_is : entry ≡ entry_without line words.Get None (replies.Pool (BadConnection code))
+-- a server was opened, refused a text of the setup, and is closed again: its number is used up, and the slot is at the back,
+-- still empty
+pub record FailsSetup (line : ℕ) (rest : List (Option Seat)) (old : Context) (entry : Entry) (new : Context) : Type 0 where
+  pub error : Error
+  pub mark : Option ℕ
+  pub refused : IsServerError error
+  pub entry_is : entry ≡ make_entry line words.Get (Some old.opened) (replies.Pool (CouldntSetupConfiguration error old.opened)) None mark
+  pub context_is : new ≡ record old { slots = rest ++ None ∷ []; out = old.out ++ None ∷ []; opened = old.opened + 1 }
+
+-- no server was opened: the slot is at the back, still empty
+pub record KeepsSlotEmpty (line : ℕ) (rest : List (Option Seat)) (error : ConnectionError) (old : Context) (entry : Entry) (new : Context) : Type 0 where
+  pub entry_is : entry ≡ entry_without line words.Get None (replies.Pool error)
   pub context_is : new ≡ record old { slots = rest ++ None ∷ [] }
+
+-- the empty slot in front, where the URL is at fault, and where it isn't: the connector may refuse with any code
+abbrev pub PlaysOpening : Option ConnectionError → ℕ → List (Option Seat) → Context → Entry → Context → Type 0
+PlaysOpening (Some fault) line rest old entry new = KeepsSlotEmpty line rest fault old entry new
+PlaysOpening None line rest old entry new =
+    FillsSlot line rest old entry new ⊎ FailsSetup line rest old entry new
+    ⊎ ((code : ℤ) × KeepsSlotEmpty line rest (BadConnection code) old entry new)
 
 -- the connection in the front slot was handed out
 pub record HandsOut (line : ℕ) (rest : List (Option Seat)) (seat : Seat) (old : Context) (entry : Entry) (new : Context) : Type 0 where
@@ -45,10 +60,10 @@ pub record Finds (wanted : Entry) (old : Context) (entry : Entry) (new : Context
   pub context_is : new ≡ old
 
 -- `get` by the slots: none is free, the front one is empty, or it has a connection
-abbrev pub PlaysGet : ℕ → Context → Entry → Context → List (Option Seat) → Type 0
-PlaysGet line old entry new [] = Finds (entry_without line words.Get None replies.NoneFree) old entry new
-PlaysGet line old entry new (None ∷ rest) = FillsSlot line rest old entry new ⊎ KeepsSlotEmpty line rest old entry new
-PlaysGet line old entry new (Some seat ∷ rest) = HandsOut line rest seat old entry new
+abbrev pub PlaysGet : Option ConnectionError → ℕ → Context → Entry → Context → List (Option Seat) → Type 0
+PlaysGet fault line old entry new [] = Finds (entry_without line words.Get None replies.NoneFree) old entry new
+PlaysGet fault line old entry new (None ∷ rest) = PlaysOpening fault line rest old entry new
+PlaysGet fault line old entry new (Some seat ∷ rest) = HandsOut line rest seat old entry new
 
 -- the slot of a connection that is given back goes to the back, with the connection where it is kept
 pub record GivesBack (line : ℕ) (n : ℕ) (seat : Seat) (old : Context) (entry : Entry) (new : Context) : Type 0 where
@@ -96,21 +111,21 @@ pub record PlaysVerb (line n : ℕ) (verb : Verb) (old : Context) (entry : Entry
   pub by_deed : PlaysByDeed line n verb old entry mid
   pub context_is : new ≡ record mid { blocks = blocks_after n verb entry.reply mid.blocks }
 
--- ---- all commands
+-- ---- all commands, where the URL has this fault or none
 
 -- a command gave this entry, from one context to another
-abbrev pub Plays : ℕ → Request → Context → Entry → Context → Type 0
-Plays line Get old entry new = PlaysGet line old entry new old.slots
-Plays line (Put n) old entry new = PlaysPut line n old entry new (at_number n old.out)
-Plays line (On n verb) old entry new = PlaysVerb line n verb old entry new
+abbrev pub Plays : Option ConnectionError → ℕ → Request → Context → Entry → Context → Type 0
+Plays fault line Get old entry new = PlaysGet fault line old entry new old.slots
+Plays fault line (Put n) old entry new = PlaysPut line n old entry new (at_number n old.out)
+Plays fault line (On n verb) old entry new = PlaysVerb line n verb old entry new
 
 -- commands gave these entries, one for each, in order
-abbrev pub PlaysAll : Context → List Command → List Entry → Context → Type 0
-PlaysAll old [] [] new = new ≡ old
-PlaysAll old [] (e ∷ es) new = ⊥
-PlaysAll old (c ∷ cs) [] new = ⊥
-PlaysAll old (c ∷ cs) (e ∷ es) new = (mid : Context) × Plays c.line (request_of c.act) old e mid × PlaysAll mid cs es new
+abbrev pub PlaysAll : Option ConnectionError → Context → List Command → List Entry → Context → Type 0
+PlaysAll fault old [] [] new = new ≡ old
+PlaysAll fault old [] (e ∷ es) new = ⊥
+PlaysAll fault old (c ∷ cs) [] new = ⊥
+PlaysAll fault old (c ∷ cs) (e ∷ es) new = (mid : Context) × Plays fault c.line (request_of c.act) old e mid × PlaysAll fault mid cs es new
 
 -- a session may give these entries
-abbrev pub IsPlayed : List Command → List Entry → Type 0
-IsPlayed commands entries = (last : Context) × PlaysAll at_first commands entries last
+abbrev pub IsPlayed : Option ConnectionError → List Command → List Entry → Type 0
+IsPlayed fault commands entries = (last : Context) × PlaysAll fault at_first commands entries last

@@ -1,29 +1,27 @@
 -- What a connection shows, and what it does for a command.
-use Rattle.std.specs.Prelude.{◌≡◌, ◌≢◌, ◌≤◌, ◌⊎◌, ℕ, Bool, true, false, ⊤, [], Option, Some, None, Result, Err, IfOk}
+use Rattle.std.specs.Prelude.{◌≡◌, ◌≢◌, ◌≤◌, ◌⊎◌, ℕ, Bool, true, false, ⊤, List, [], Option, Some, None, Result, Err, IfOk, MatchResult}
 use Rattle.std.specs.Option.{unwrap_or}
 use Rattle.std.specs.declared.alloc.AllocError.{AllocError}
 use Rattle.conn_result.specs.Causes.{Rose}
+use Rattle.conn_result.specs.declared.error.ConnectionError.{ConnectionError}
+use Rattle.conn_result.specs.declared.error.ConnectionError.TheVariants.{BadConnection, CouldntSetupConfiguration, OutOfMemory as no_memory}
 use Rattle.conn_result.specs.declared.error.Error.{Error}
-use Rattle.conn_result.specs.declared.error.Error.TheVariants.{DatabaseError, OutOfMemory}
+use Rattle.conn_result.specs.declared.error.Error.TheVariants.{DatabaseError, InvalidCString, OutOfMemory}
 use Rattle.conn_model.specs.Acts.{Acts, IsSameServer}
-use Rattle.conn_model.specs.Events.{Heeded}
+use Rattle.conn_model.specs.Nuls.{nul_place}
 use Rattle.conn_model.specs.Seen.{Seen, state_seen}
 use Rattle.conn_model.specs.States.{State, Idle}
 use Rattle.conn_manager.specs.Manages.{IsRefusal, Reply as Answer}
 use Rattle.conn_manager.specs.Views.{View}
 use Rattle.conn_reading.specs.Asking.{outcome, process_of}
-use Rattle.conn_reading.specs.Seats.{Seat, entry_on}
+use Rattle.conn_reading.specs.Seats.{Seat, make_entry, entry_without}
 use Rattle.conn_report.specs.declared.entry.Entry.{Entry}
 use Rattle.conn_report.specs.declared.entry.Reply.{Reply}
 use Rattle.conn_report.specs.declared.entry.Reply.TheVariants as replies
-use Rattle.conn_script.specs.declared.command.Word.{Word}
+use Rattle.conn_script.specs.declared.command.Word.TheVariants as words
+use Rattle.conn_server.specs.Connected.{sent_by}
 use Rattle.conn_reading.specs.declared.deed.Deed.{Deed}
 use Rattle.conn_reading.specs.declared.deed.Deed.TheVariants as deeds
-use Rattle.conn_session.specs.declared.connection.ServerConnection.{ServerConnection}
-
--- what a connection shows, by what its server and its handler show
-abbrev pub shows : {S H : Type 0} → (S → Seen) → (H → Heeded) → ServerConnection S H → View
-shows seen told c = record { seen = seen c.server; status = c.status; heeded = told c.handler }
 
 -- the state that a server's log gives, where it is told and lawful
 abbrev pub state_told : Seen → State
@@ -43,19 +41,45 @@ abbrev pub IsServerError : Error → Type 0
 IsServerError (DatabaseError kind code) = ⊤
 IsServerError _ = ⊥
 
+-- the error is a server's refusal of the text, or tells the place of its first NUL
+abbrev pub IsTextError : List ℕ → Error → Type 0
+IsTextError text (InvalidCString place) = nul_place text ≡ Some place
+IsTextError text e = IsServerError e
+
+-- no connection was made, since its server refused a text of the setup
+abbrev pub IsSetupRefused : ConnectionError → Type 0
+IsSetupRefused (CouldntSetupConfiguration e n) = IsRefusal (Err e)
+IsSetupRefused _ = ⊥
+
 -- the reply hands on a refusal of a server
 abbrev pub IsRefused : Reply → Type 0
 IsRefused (replies.Error e) = IsRefusal (Err e)
+IsRefused (replies.Pool e) = IsSetupRefused e
 IsRefused _ = ⊥
 
--- no connection was opened
+-- the connector refused
+abbrev pub IsConnectors : ConnectionError → Type 0
+IsConnectors (BadConnection code) = ⊤
+IsConnectors _ = ⊥
+
+-- the reply hands on a refusal of the connector
 abbrev pub IsUnopened : Reply → Type 0
-IsUnopened (replies.Pool e) = ⊤
+IsUnopened (replies.Pool e) = IsConnectors e
 IsUnopened _ = ⊥
 
--- the errors of a deed: a text is refused by its server alone; want of memory is no reply
+-- the entry of an attempt that gave no connection: where a server was opened, its number, and how many items its log has where
+-- that is told
+abbrev pub unopened_entry : ℕ → ConnectionError → List Seen → Entry
+unopened_entry line (CouldntSetupConfiguration e n) returned = make_entry line words.Get (Some n) (replies.Pool (CouldntSetupConfiguration e n)) None (sent_by n returned)
+unopened_entry line e returned = entry_without line words.Get None (replies.Pool e)
+
+-- an attempt gave no connection; want of memory has no entry
+abbrev pub ShowsUnopened : ℕ → ConnectionError → List Seen → Result Entry AllocError → Type 0
+ShowsUnopened line e returned result = MatchResult result (λ entry. (e ≢ no_memory) × (entry ≡ unopened_entry line e returned)) (λ _. e ≡ no_memory)
+
+-- the errors of a deed: a text is refused by its server or stopped by its NUL; want of memory is no reply
 abbrev pub IsErrorOf : Deed → Error → Type 0
-IsErrorOf (deeds.Batch text) e = IsServerError e
+IsErrorOf (deeds.Batch text) e = IsTextError text e
 IsErrorOf _ e = e ≢ OutOfMemory
 
 -- a reply to a deed
@@ -86,20 +110,8 @@ pub record Does (honest : Bool) (deed : Deed) (old new : View) (result : Result 
   pub later : old.seen.failures ≤ new.seen.failures
   pub answered : IfOk result (Replies honest deed old new)
 
--- the entry shows the reply to a deed, and the connection after it
-pub record Shows (honest : Bool) (line : ℕ) (word : Word) (deed : Deed) (old new : View) (entry : Entry) : Type 0 where
-  pub reply : Reply
-  pub answered : Replies honest deed old new reply
-  pub entry_is : entry ≡ entry_on line word reply (seat_of new)
-
--- the same with the entry of the command
-pub record Enters (honest : Bool) (line : ℕ) (word : Word) (deed : Deed) (old new : View) (result : Result Entry AllocError) : Type 0 where
-  pub same : IsSameServer old.seen new.seen
-  pub later : old.seen.failures ≤ new.seen.failures
-  pub shown : IfOk result (Shows honest line word deed old new)
-
 -- a deed on the connection at a place, where there is one
-abbrev pub ActsIn : Bool → ℕ → Word → Deed → Option View → Option View → Option (Result Entry AllocError) → Type 0
-ActsIn honest line word deed None new result = (new ≡ None) × (result ≡ None)
-ActsIn honest line word deed (Some v) (Some w) (Some r) = Enters honest line word deed v w r
-ActsIn honest line word deed (Some v) _ _ = ⊥
+abbrev pub ActsIn : Bool → Deed → Option View → Option View → Option (Result Reply AllocError) → Type 0
+ActsIn honest deed None new result = (new ≡ None) × (result ≡ None)
+ActsIn honest deed (Some v) (Some w) (Some r) = Does honest deed v w r
+ActsIn honest deed (Some v) _ _ = ⊥

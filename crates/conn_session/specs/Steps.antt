@@ -1,22 +1,26 @@
 -- What the commands of a session do to it and to its connector.
-use Rattle.std.specs.Prelude.{ℕ, ◌≡◌, ◌<◌, ◌≤◌, ◌⊎◌, ⊤, Bool, true, List, Option, Some, Result, Err, IfOk, sum_by}
+use Rattle.std.specs.Prelude.{ℕ, ◌≡◌, ◌<◌, ◌≤◌, ◌⊎◌, ⊤, Bool, true, List, Option, Some, None, Result, Ok, Err, IfOk, sum_by}
 use Rattle.std.specs.List.{AllByRecursion}
 use Rattle.std.specs.declared.alloc.AllocError.{AllocError}
 use Rattle.conn_result.specs.Causes.{Rose}
+use Rattle.conn_result.specs.declared.error.ConnectionError.{ConnectionError}
 use Rattle.conn_model.specs.Seen.{Seen}
 use Rattle.conn_manager.specs.Manages.{IsRefusal}
 use Rattle.conn_reading.specs.Answered.{ServerLogs, Progress, Taken, reads, reads_by_deed, reads_on}
-use Rattle.conn_reading.specs.Seats.{Context, at_number}
+use Rattle.conn_reading.specs.Seats.{Seat, Context, at_number, entry_on, entry_without}
 use Rattle.conn_reading.specs.declared.blocks.Block.{Block}
 use Rattle.conn_reading.specs.declared.blocks.BlockState.{BlockState}
 use Rattle.conn_reading.specs.declared.blocks.BlockState.TheVariants.{Refused}
 use Rattle.conn_reading.specs.declared.deed.Deed.{Deed}
 use Rattle.conn_report.specs.declared.entry.Entry.{Entry}
+use Rattle.conn_report.specs.declared.entry.Reply.{Reply}
+use Rattle.conn_script.specs.Requests.{verb_word}
 use Rattle.conn_script.specs.declared.command.Command.{Command}
 use Rattle.conn_script.specs.declared.command.Word.{Word}
 use Rattle.conn_script.specs.declared.request.Request.{Request}
 use Rattle.conn_script.specs.declared.request.Verb.{Verb}
-use Rattle.conn_server.specs.Connected.{Connected, AreAt}
+use Rattle.conn_drivers.specs.Establishing.{AreAt, url_fault}
+use Rattle.conn_server.specs.Connected.{Connected}
 use Rattle.conn_session.specs.Known.{Has, IsKnown, Grows, GrowsAll}
 use Rattle.conn_session.specs.Worlds.{World, Invariant, context_of, sum_all, refusals}
 use Rattle.conn_session.specs.Plays.{Plays, PlaysOn, PlaysByDeed, PlaysAll}
@@ -46,13 +50,13 @@ IsCausedState servers n _ = ⊤
 abbrev pub AreBlocksCaused : World → Type 0
 AreBlocksCaused w = AllByRecursion (λ (b : Block). IsCausedState (λ n. sum_all (refusals n) w) b.connection b.state) w.pool.blocks
 
--- what no command changes: how connections are opened, how many slots there are, the plan, and that attempts are at the target
+-- what no command changes: how connections are opened, how many slots there are, the plan, and that attempts are at the URL
 pub record KeepsOpening (old new : World) : Type 0 where
   pub dialect : new.pool.dialect ≡ old.pool.dialect
-  pub target : new.pool.target ≡ old.pool.target
+  pub url : new.pool.url ≡ old.pool.url
   pub size : new.pool.size ≡ old.pool.size
   pub plan : new.connector.armed ≡ old.connector.armed
-  pub aims : AreAt old.pool.target old.connector.targets → AreAt old.pool.target new.connector.targets
+  pub aims : AreAt old.pool.dialect old.pool.url old.connector.targets → AreAt old.pool.dialect old.pool.url new.connector.targets
 
 -- what a command leaves, also where it ends for want of memory
 pub record KeepsAll (old new : World) : Type 0 where
@@ -68,9 +72,13 @@ pub record StepsBy (plays : Context → Entry → Context → Type 0) (reading :
   pub caused : AreBlocksCaused old → IfOk result (λ entry. IsCausedIn old new entry × AreBlocksCaused new)
   pub grows : honest ≡ true → IfOk result (Grows reading old new)
 
+-- the fault of the URL at which connections are opened, where it has one
+abbrev pub fault_of : World → Option ConnectionError
+fault_of w = url_fault w.pool.dialect w.pool.url
+
 -- one command
 abbrev pub Steps : Bool → ℕ → Request → World → World → Result Entry AllocError → Type 0
-Steps honest line request = StepsBy (Plays line request) (λ p logs. reads p logs line request) honest
+Steps honest line request old new result = StepsBy (Plays (fault_of old) line request) (λ p logs. reads p logs line request) honest old new result
 
 -- the entry of a deed on connection n: a refusal in it was counted, or is that of the block which closes
 pub record IsCausedOn (n : ℕ) (deed : Deed) (new : World) (entry : Entry) : Type 0 where
@@ -92,9 +100,31 @@ pub record StepsDeed (honest : Bool) (line n : ℕ) (verb : Verb) (old new : Wor
   pub blocks : new.pool.blocks ≡ old.pool.blocks
   pub on : IfOk result (λ entry. entry.connection ≡ Some n)
 
+-- ---- a command on connection n by its reply
+
+-- its entry, which shows the connection where it is out
+abbrev pub entry_at : ℕ → Word → ℕ → Reply → Option Seat → Entry
+entry_at line word n reply None = entry_without line word (Some n) reply
+entry_at line word n reply (Some seat) = entry_on line word reply seat
+
+-- the same where there is a reply, by the connections after it
+abbrev pub entered : ℕ → Word → ℕ → World → Result Reply AllocError → Result Entry AllocError
+entered line word n w (Ok reply) = Ok (entry_at line word n reply (at_number n (context_of w).out))
+entered line word n w (Err e) = Err e
+
+-- a reply to a deed, whatever command asks it
+abbrev pub AnswersOn : Bool → ℕ → Deed → World → World → Result Reply AllocError → Type 0
+AnswersOn honest n deed old new result = (line : ℕ) → (word : Word) → DoesOn honest line n word deed old new (entered line word n new result)
+
+-- a reply to a command, in whatever line it stands, before it tells the blocks
+abbrev pub AnswersVerb : Bool → ℕ → Verb → World → World → Result Reply AllocError → Type 0
+AnswersVerb honest n verb old new result = (line : ℕ) → StepsDeed honest line n verb old new (entered line (verb_word verb) n new result)
+
+-- ---- all commands
+
 -- some commands, with their entries in order
-pub record Runs (honest : Bool) (commands : List Command) (old new : World) (entries : List Entry) : Type 0 where
-  pub plays_entries : PlaysAll (context_of old) commands entries (context_of new)
+pub record RunsAll (honest : Bool) (commands : List Command) (old new : World) (entries : List Entry) : Type 0 where
+  pub plays_entries : PlaysAll (fault_of old) (context_of old) commands entries (context_of new)
   pub caused : AreBlocksCaused old → AllByRecursion (IsCausedIn old new) entries × AreBlocksCaused new
   pub grows : honest ≡ true → GrowsAll old new commands entries
 

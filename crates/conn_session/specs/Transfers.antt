@@ -1,5 +1,5 @@
 -- How servers and slots move between the pool, the connections that are out, and the connector.
-use Rattle.std.specs.Prelude.{ℕ, ◌+◌, ◌≡◌, ◌≤◌, List, [], ◌∷◌, ◌++◌, slice_set, sum_by, Option, Some, None}
+use Rattle.std.specs.Prelude.{ℕ, ◌+◌, ◌≡◌, ◌≤◌, List, [], ◌∷◌, ◌++◌, length, nat_lt, if◌then◌else◌, slice_set, sum_by, Option, Some, None}
 use Rattle.std.specs.List.{AllByRecursion}
 use Rattle.conn_model.specs.Seen.{Seen}
 use Rattle.conn_model.specs.declared.item.Dialect.{Dialect}
@@ -31,8 +31,12 @@ abbrev pub puts_out : ℕ → Option View → Pool → Pool
 puts_out n view p = record p { out = slice_set p.out n view }
 
 -- a place for the next number has this
-abbrev pub adds_out : View → Pool → Pool
-adds_out view p = record p { out = p.out ++ Some view ∷ [] }
+abbrev pub adds_out : Option View → Pool → Pool
+adds_out view p = record p { out = p.out ++ view ∷ [] }
+
+-- a place for each server that was opened, where one was opened since
+abbrev pub fills_places : ℕ → Pool → Pool
+fills_places opened p = if nat_lt (length p.out) opened then adds_out None p else p
 
 -- the reply to a command of connection n told the blocks
 abbrev pub tells_blocks : ℕ → Verb → Reply → World → World

@@ -3,21 +3,18 @@ use Rattle.std.specs.Prelude.{ℕ, suc, ◌+◌, ◌≡◌, ◌<◌, ◌≤◌, 
 use Rattle.std.specs.Option.{option_map}
 use Rattle.conn_model.specs.Seen.{Seen}
 use Rattle.conn_model.specs.declared.item.Dialect.{Dialect}
-use Rattle.conn_model.specs.declared.plan.Target.{Target}
 use Rattle.conn_manager.specs.Views.{View}
-use Rattle.conn_manager.specs.declared.instrumentation.NoInstrumentation.{NoInstrumentation}
 use Rattle.conn_reading.specs.Seats.{Seat, Context}
 use Rattle.conn_reading.specs.declared.blocks.Block.{Block}
 use Rattle.conn_server.specs.Connected.{Connected}
-use Rattle.conn_session.specs.Responses.{seat_of, shows}
-use Rattle.conn_session.specs.declared.connection.ServerConnection.{ServerConnection}
+use Rattle.conn_session.specs.Responses.{seat_of}
 use Rattle.conn_session.specs.declared.session.Session.{Session}
 
 -- How connections are opened, how many slots there are, the slots that aren't handed out, front first, the connections that
 -- are, each at the place of its number, and the open blocks, innermost first.
 pub record Pool : Type 0 where
   pub dialect : Dialect
-  pub target : Target
+  pub url : List ℕ
   pub size : ℕ
   pub slots : List (Option View)
   pub out : List (Option View)
@@ -29,24 +26,21 @@ pub record World : Type 0 where
   pub connector : Connected
 
 -- a pool of one empty slot
-abbrev pub new_pool : Dialect → Target → Pool
-new_pool dialect target = record { dialect = dialect; target = target; size = 1; slots = None ∷ []; out = []; blocks = [] }
+abbrev pub new_pool : Dialect → List ℕ → Pool
+new_pool dialect url = record { dialect = dialect; url = url; size = 1; slots = None ∷ []; out = []; blocks = [] }
 
-module _ {S : Type 0} (seen : S → Seen) where
-  -- what a connection of the session shows, whose handler tells nothing
-  abbrev pub view_of : ServerConnection S NoInstrumentation → View
-  view_of c = shows seen (λ h. None) c
-
+-- connections, by what each shows
+module _ {C : Type 0} (view : C → View) where
   -- what connections show, where they are
-  abbrev pub views_of : List (Option (ServerConnection S NoInstrumentation)) → List (Option View)
-  views_of cs = map (option_map view_of) cs
+  abbrev pub views_of : List (Option C) → List (Option View)
+  views_of cs = map (option_map view) cs
 
   -- what a session shows
-  abbrev pub pool_of : Session S → Pool
-  pool_of s = record { dialect = s.dialect; target = s.target; size = s.size; slots = views_of s.slots.items; out = views_of s.out.items; blocks = s.blocks }
+  abbrev pub pool_of : Session C → Pool
+  pool_of s = record { dialect = s.dialect; url = s.url; size = s.size; slots = views_of s.slots.items; out = views_of s.out.items; blocks = s.blocks }
 
   -- a session and its connector
-  abbrev pub world_of : Session S → Connected → World
+  abbrev pub world_of : Session C → Connected → World
   world_of s connector = record { pool = pool_of s; connector = connector }
 
 -- ---- as a reader of logs has them

@@ -1,7 +1,7 @@
 //! Runs sessions: the commands of a script over the servers that a connector opens.
 #![tactic(auto)]
 
-mod connection;
+mod calls;
 mod places;
 mod session;
 mod top;
@@ -10,6 +10,5 @@ mod transcript;
 pub use conn_io::{BytesSink, BytesSource, Failed, Sink, Source};
 pub use conn_report::{Entry, Reply, Transcript, Word, render};
 pub use conn_script::{Script, SessionError, parse_script};
-pub use connection::ServerConnection;
 pub use top::run_command;
 pub use transcript::run_session;

@@ -3,15 +3,17 @@ ghost use Rattle.std.specs.Prelude.{◌≡◌, ◌≤◌};
 ghost use Rattle.std.specs.Option.{option_map};
 ghost use Rattle.conn_reading.specs.Seats.{entry_without as entry_of_none, is_kept};
 ghost use Rattle.conn_session.specs.Transfers.{gives_back};
-ghost use Rattle.conn_session.specs.Responses.{ActsIn};
-ghost use Rattle.conn_session.specs.Worlds.{part, each_server, view_of};
+ghost use Rattle.conn_session.specs.Responses.{ActsIn, ShowsUnopened};
+ghost use Rattle.conn_session.specs.Worlds.{part, each_server};
 
-use crate::ServerConnection;
-use conn_manager::{NoInstrumentation, TransactionManagerStatus};
+use crate::calls::act;
+use conn_drivers::Establish;
+use conn_manager::{Connection, TransactionManagerStatus};
 use conn_reading::Deed;
 use conn_report::{Entry, Reply};
+use conn_result::ConnectionError;
 use conn_script::Word;
-use conn_server::{Connector, Server};
+use conn_server::Connector;
 use std::alloc::AllocError;
 
 /// The entry of a command where no connection is there.
@@ -25,6 +27,29 @@ pub fn entry_without(line: u32, word: Word, connection: Option<u32>, reply: Repl
         reply,
         status: None,
         mark: None,
+    }
+}
+
+/// The entry of an attempt that gave no connection; want of memory has none. Where a server was opened, the entry shows its
+/// number and how many items it got, where the connector tells that.
+pub fn unopened<K: Connector>(
+    line: u32,
+    error: ConnectionError,
+    connector: &K,
+) -> Result<Entry, AllocError>
+    ensures { ShowsUnopened line error (K.held connector.now).returned result }
+{
+    match error {
+        ConnectionError::OutOfMemory => Err(AllocError),
+        ConnectionError::CouldntSetupConfiguration(_, number) => Ok(Entry {
+            line,
+            word: Word::Get,
+            connection: Some(number),
+            reply: Reply::Pool(error),
+            status: None,
+            mark: connector.sent(number),
+        }),
+        _ => Ok(entry_without(line, Word::Get, None, Reply::Pool(error))),
     }
 }
 
@@ -42,32 +67,25 @@ pub fn is_kept(status: &TransactionManagerStatus) -> bool
 }
 
 /// Does a deed on the connection at a place, where there is one.
-pub fn act_in<S: Server>(
-    place: &mut Option<ServerConnection<S, NoInstrumentation>>,
-    line: u32,
-    word: Word,
+pub fn act_in<C: Connection>(
+    place: &mut Option<C>,
     deed: &Deed<'_>,
-) -> Option<Result<Entry, AllocError>>
-    ensures { ActsIn S.is_honest line word deed.now (option_map (view_of S.seen) place.old)
-        (option_map (view_of S.seen) place.new) result }
+) -> Option<Result<Reply, AllocError>>
+    ensures { ActsIn C.is_honest deed.now (option_map C.view place.old)
+        (option_map C.view place.new) result }
 {
     match place {
         None => None,
-        Some(connection) => Some(connection.run(line, word, deed)),
+        Some(connection) => Some(act(connection, deed)),
     }
 }
 
 /// Gives the server of a connection back, where there is one.
-pub fn give_back<K: Connector>(
-    place: Option<ServerConnection<K::S, NoInstrumentation>>,
-    connector: &mut K,
-)
-    requires { part each_server (option_map (view_of K.S.seen) place)
-        ≤ (K.held connector.old).room }
-    ensures { K.held connector.new
-        ≡ gives_back (option_map (view_of K.S.seen) place) (K.held connector.old) }
+pub fn give_back<C: Establish, K: Connector<S = C::S>>(place: Option<C>, connector: &mut K)
+    requires { part each_server (option_map C.view place) ≤ (K.held connector.old).room }
+    ensures { K.held connector.new ≡ gives_back (option_map C.view place) (K.held connector.old) }
 {
     if let Some(connection) = place {
-        connector.take_back(connection.into_server());
+        connection.close(connector);
     }
 }

@@ -1,15 +1,17 @@
 //! A whole session: its commands run, and its servers given back.
 ghost use Rattle.std.specs.Prelude.{◌≡◌, [], IfOk, IsSome, Some};
 ghost use Rattle.conn_script.specs.Grammar.{script_of};
-ghost use Rattle.conn_model.specs.declared.plan.Target.TheVariants.{Url as url};
-ghost use Rattle.conn_server.specs.Connected.{AreAt, writes_by, count_writes, write_at};
+ghost use Rattle.conn_drivers.specs.Establishing.{AreAt};
+ghost use Rattle.conn_server.specs.Connected.{writes_by, count_writes, write_at};
 ghost use Rattle.conn_session.specs.Accounts.{AllBack, servers_of};
 ghost use Rattle.conn_session.specs.Commands.{IsParsed, RunsScript, Transcribes, Sessions};
 
 use crate::session::Session;
+use conn_drivers::{AnyConnection, MultiConnection};
+use conn_manager::{Connection, NoInstrumentation};
 use conn_report::{Entry, Servers, Texts, Transcript};
 use conn_script::{Script, SessionError, parse_script};
-use conn_server::{Connector, Target};
+use conn_server::Connector;
 use sqlite_items::Items;
 use std::alloc::{AllocError, Global};
 
@@ -60,22 +62,21 @@ fn all_writes<K: Connector>(alloc: Global, connector: &K) -> Result<Servers, All
 }
 
 /// Runs the commands over new servers, all of which are given back.
-fn run_commands<K: Connector>(
-    alloc: Global,
-    script: &Script,
-    connector: &mut K,
-) -> Result<Vec<Entry>, AllocError>
+fn run_commands<
+    C: MultiConnection + Connection<Handler = NoInstrumentation> + Drop,
+    K: Connector<S = C::S>,
+>(alloc: Global, script: &Script, connector: &mut K) -> Result<Vec<Entry>, AllocError>
     requires none_opened { (K.held connector.old).opened ≡ 0 }
     requires none_returned { (K.held connector.old).returned ≡ [] }
     ensures runs { IfOk result (λ entries. RunsScript K.is_honest script.now
         (K.held connector.old) (K.held connector.new) entries.items) }
-    ensures aims { AreAt (url script.now.url) (K.held connector.old).targets
-        → AreAt (url script.now.url) (K.held connector.new).targets }
+    ensures aims { AreAt script.now.dialect script.now.url (K.held connector.old).targets
+        → AreAt script.now.dialect script.now.url (K.held connector.new).targets }
     ensures back { AllBack (K.held connector.new) }
     ensures armed { (K.held connector.new).armed ≡ (K.held connector.old).armed }
 {
-    let target = Target::Url(script.url.copy(alloc)?);
-    let mut session = Session::new(alloc, script.dialect, target)?;
+    let url = script.url.copy(alloc)?;
+    let mut session: Session<C> = Session::new(alloc, script.dialect, url)?;
     let entries = session.run_all(script.commands.as_slice(), connector);
     session.close(connector);
     entries
@@ -95,7 +96,9 @@ fn run_script<K: Connector>(
     ensures back { AllBack (K.held connector.new) }
 {
     connector.arm(alloc, script.plan.as_slice())?;
-    let entries = run_commands(alloc, script, connector)?;
+    let entries = run_commands::<AnyConnection<K::S, NoInstrumentation>, K>(
+        alloc, script, connector,
+    )?;
     let servers = all_writes(alloc, connector)?;
     Ok(Transcript {
         entries: Items::from_vec(entries),

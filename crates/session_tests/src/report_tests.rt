@@ -1,6 +1,7 @@
 //! What refusals and losses leave, and what a savepoint's name means that comes again: whole reports, worked out by hand.
 use crate::tests::run_whole;
 use std::alloc::{AllocError, Global};
+use std::fmt::Write;
 use std::test::Fail;
 
 /// Whether the script ends well with this report.
@@ -136,5 +137,72 @@ fn a_pool_keeps_the_transaction_of_a_test(rt: HostRuntime) -> Result<(), Fail> {
     let report =
         b"2 get 0 | ok | none | 0\n3 testbegin 0 | ok | depth 1 test | 1\n4 batch 0 | ok | depth 1 test | 2\n5 put 0 | kept | depth 1 test | 2\n6 get 0 | ok | depth 1 test | 2\n7 testbegin 0 | error AlreadyInTransaction | depth 1 test | 2\n8 rollback 0 | ok | none | 3\n9 put 0 | kept | none | 3\nserver 0 0\ndone 8 1\n";
     assert!(rt; is_reported(rt.alloc(), script, report)?);
+    Ok(())
+}
+
+/// The dialects that are set up: the items of that, a refusal by its words, and how it is reported.
+const SETUPS: [(&str, u64, &str, &str); 2] = [
+    ("pg", 2, "42601 Unknown", "Unknown 42601"),
+    ("mysql", 8, "1792 -", "ReadOnlyTransaction 1792"),
+];
+
+/// Whether a set-up that is refused at this item closes server 0, and the next `get` opens server 1.
+fn is_opened_again(
+    alloc: Global,
+    (dialect, items, error, reported): (&str, u64, &str, &str),
+    item: u64,
+    wish: &str,
+) -> Result<bool, AllocError> {
+    let mut script = String::new(alloc);
+    write!(
+        script,
+        "session {dialect} 1 nop nocheck\nrefuse 0 {item} {error} {wish}\nget\nget\n"
+    )?;
+    let mut report = String::new(alloc);
+    write!(
+        report,
+        "3 get 0 | poolerror ConnectionError CouldntSetupConfiguration DatabaseError {reported} | - | {item}\n"
+    )?;
+    write!(
+        report,
+        "4 get 1 | ok | none | {items}\nserver 0 0\nserver 1 0\ndone 2 2\n"
+    )?;
+    is_reported(alloc, script.as_bytes(), report.as_bytes())
+}
+
+#[test]
+fn a_server_whose_setup_is_refused_is_closed(rt: HostRuntime) -> Result<(), Fail> {
+    for setup in SETUPS {
+        for item in 1..=setup.1 {
+            for wish in ["stay", "lose"] {
+                assert!(rt; is_opened_again(rt.alloc(), setup, item, wish)?);
+            }
+        }
+    }
+    Ok(())
+}
+
+#[test]
+fn a_nul_stops_a_text_on_postgresql_and_sqlite(rt: HostRuntime) -> Result<(), Fail> {
+    let commands = "get\nbegin 0\nbatch 0 INSERT a\0b\ncommit 0\n";
+    let rows = [
+        (
+            "pg",
+            "2 get 0 | ok | none | 2\n3 begin 0 | ok | depth 1 | 3\n4 batch 0 | error InvalidCString 8 | depth 1 | 3\n5 commit 0 | ok | none | 4\nserver 0 0\ndone 4 1\n",
+        ),
+        (
+            "sqlite",
+            "2 get 0 | ok | none | 0\n3 begin 0 | ok | depth 1 | 1\n4 batch 0 | error InvalidCString 8 | depth 1 | 1\n5 commit 0 | ok | none | 2\nserver 0 0\ndone 4 1\n",
+        ),
+        (
+            "mysql",
+            "2 get 0 | ok | none | 8\n3 begin 0 | ok | depth 1 | 9\n4 batch 0 | ok | depth 1 | 10\n5 commit 0 | ok | none | 11\nserver 0 1\nwrite INSERT a\0b\ndone 4 1\n",
+        ),
+    ];
+    for (dialect, report) in rows {
+        let mut script = String::new(rt.alloc());
+        write!(script, "session {dialect} 1 nop nocheck\n{commands}")?;
+        assert!(rt; is_reported(rt.alloc(), script.as_bytes(), report.as_bytes())?);
+    }
     Ok(())
 }

@@ -1,9 +1,10 @@
 //! Whole runs, from words and bytes to a status and bytes, over servers in memory.
 ghost use Rattle.std.specs.Prelude.{◌<◌};
 
-use conn_server::ScriptedConnector;
+use conn_server::{Connector, ScriptedConnector};
 use conn_session::{BytesSink, BytesSource, run_command};
 use std::alloc::{AllocError, Global};
+use std::fmt::Write;
 use std::test::Fail;
 
 const ONE_WRITE: &[u8] = b"session sqlite 1 nop nocheck\nget\nbatch 0 INSERT a\nput 0\n";
@@ -12,14 +13,25 @@ const ONE_WRITE_REPORT: &[u8] =
     b"2 get 0 | ok | none | 0\n3 batch 0 | ok | none | 1\n4 put 0 | kept | none | 1\nserver 0 1\nwrite INSERT a\ndone 3 1\n";
 
 /// The commands in which a savepoint's name is used again over one that stayed after a rollback to it.
-const NAME_AGAIN: &[u8] =
-    b"get\nbegin 0\nbatch 0 INSERT a\nbegin 0\nbatch 0 INSERT b\nrollback 0\nbegin 0\nbatch 0 INSERT c\ncommit 0\ncommit 0\nput 0\n";
+const NAME_AGAIN: &str =
+    "get\nbegin 0\nbatch 0 INSERT a\nbegin 0\nbatch 0 INSERT b\nrollback 0\nbegin 0\nbatch 0 INSERT c\ncommit 0\ncommit 0\nput 0\n";
 
-/// A status, and the bytes that were written.
+/// A status, the bytes that were written, and whether each server that was opened is back.
 #[derive(Drop)]
 pub struct Ended {
     pub status: u8,
     pub written: Vec<u8>,
+    pub all_back: bool,
+}
+
+/// Whether each server that was opened is back.
+fn are_back(connector: &ScriptedConnector) -> bool {
+    for server in 0..connector.opened() {
+        if connector.sent(server).is_none() {
+            return false;
+        }
+    }
+    true
 }
 
 /// Runs a script under words, which a space parts, from a source and into a sink of which these calls fail.
@@ -41,8 +53,11 @@ fn run_between(
     let mut sink = BytesSink::new(alloc, 4096, write_takes, failing_writes)?;
     let mut connector = ScriptedConnector::new(alloc);
     let status = run_command(alloc, &words, &mut source, &mut sink, &mut connector);
-    let written = Vec::from_slice(alloc, sink.bytes())?;
-    Ok(Ended { status, written })
+    Ok(Ended {
+        status,
+        written: Vec::from_slice(alloc, sink.bytes())?,
+        all_back: are_back(&connector),
+    })
 }
 
 /// Runs a script where nothing fails.
@@ -57,15 +72,64 @@ fn plain(alloc: Global, commands: &[u8]) -> Result<Vec<u8>, AllocError> {
     Ok(script)
 }
 
-/// The run with the name that comes again, with one refusal.
-fn refused_once(alloc: Global, item: &[u8], wish: &[u8]) -> Result<Vec<u8>, AllocError> {
-    let mut script = Vec::from_slice(alloc, b"session sqlite 1 nop nocheck\nrefuse 0 ")?;
-    script.extend_from_slice(item)?;
-    script.extend_from_slice(b" 5 - ")?;
-    script.extend_from_slice(wish)?;
-    script.extend_from_slice(b"\n")?;
-    script.extend_from_slice(NAME_AGAIN)?;
+/// The run with the name that comes again, in a dialect and with one refusal.
+fn refused_once(
+    alloc: Global,
+    dialect: &str,
+    item: u64,
+    error: &str,
+    wish: &str,
+) -> Result<String, AllocError> {
+    let mut script = String::new(alloc);
+    write!(
+        script,
+        "session {dialect} 1 nop nocheck\nrefuse 0 {item} {error} {wish}\n"
+    )?;
+    script.push_str(NAME_AGAIN)?;
     Ok(script)
+}
+
+/// One refusal of each item and with each wish: the words of the dialect, the items of a run without a refusal, the words of the
+/// error, the wishes, and how the error is reported.
+const REFUSALS: [(&str, u64, &str, &[&str], &str); 4] = [
+    (
+        "sqlite",
+        9,
+        "5 -",
+        &["stay", "end", "lose"],
+        "DatabaseError Unknown 5",
+    ),
+    (
+        "pg",
+        11,
+        "40001 SerializationFailure",
+        &["stay", "end", "lose"],
+        "DatabaseError SerializationFailure 40001",
+    ),
+    (
+        "mysql",
+        17,
+        "5 -",
+        &["stay", "lose"],
+        "DatabaseError Unknown 5",
+    ),
+    (
+        "mysql",
+        17,
+        "1213 -",
+        &["end"],
+        "DatabaseError SerializationFailure 1213",
+    ),
+];
+
+/// Whether a run ends well, reports each command and the error, and has each server back.
+fn is_well_refused(alloc: Global, script: &str, error: &str) -> Result<bool, AllocError> {
+    let ended = run_whole(alloc, script.as_bytes())?;
+    let Ok(report) = str::from_utf8(ended.written.as_slice()) else {
+        return Ok(false);
+    };
+    let done = report.ends_with("\ndone 11 1\n");
+    Ok(ended.status == 0 && ended.all_back && done && report.contains(error))
 }
 
 #[test]
@@ -109,6 +173,10 @@ fn bytes_that_are_no_script_run_nothing(rt: HostRuntime) -> Result<(), Fail> {
         b"session sqlite 1 nop nocheck\nget\n\nput 0\n",
         b"session sqlite 01 nop nocheck\n",
         b"get\nsession sqlite 1 nop nocheck\n",
+        b"session oracle 1 nop nocheck\n",
+        b"session pg 1 nop nocheck\nrefuse 0 1 5 - stay\n",
+        b"session mysql 1 nop nocheck\nrefuse 0 1 5 Unknown stay\n",
+        b"session mysql 1 nop nocheck\nrefuse 0 1 5 - end\n",
     ] {
         let ended = run_whole(rt.alloc(), script)?;
         assert_eq!(rt; ended.status, 1);
@@ -148,27 +216,12 @@ fn whichever_read_fails_nothing_is_written(rt: HostRuntime) -> Result<(), Fail> 
 
 #[test]
 fn one_refusal_anywhere_is_reported(rt: HostRuntime) -> Result<(), Fail> {
-    let items = [
-        b"1".as_slice(),
-        b"2",
-        b"3",
-        b"4",
-        b"5",
-        b"6",
-        b"7",
-        b"8",
-        b"9",
-    ];
-    for item in items {
-        for wish in [b"stay".as_slice(), b"end", b"lose"] {
-            let script = refused_once(rt.alloc(), item, wish)?;
-            let ended = run_whole(rt.alloc(), &script)?;
-            assert_eq!(rt; ended.status, 0);
-            assert!(rt; ended.written.as_slice().ends_with(b"\ndone 11 1\n"));
-            let report = str::from_utf8(ended.written.as_slice())
-                .ok()
-                .ok_or("no text")?;
-            assert!(rt; report.contains("DatabaseError Unknown 5"));
+    for (dialect, items, error, wishes, reported) in REFUSALS {
+        for item in 1..=items {
+            for wish in wishes {
+                let script = refused_once(rt.alloc(), dialect, item, error, wish)?;
+                assert!(rt; is_well_refused(rt.alloc(), &script, reported)?, "{script}");
+            }
         }
     }
     Ok(())
@@ -176,7 +229,7 @@ fn one_refusal_anywhere_is_reported(rt: HostRuntime) -> Result<(), Fail> {
 
 #[test]
 fn a_script_may_be_cut_where_a_line_ends(rt: HostRuntime) -> Result<(), Fail> {
-    let script = plain(rt.alloc(), NAME_AGAIN)?;
+    let script = plain(rt.alloc(), NAME_AGAIN.as_bytes())?;
     let mut cut = Vec::new(rt.alloc());
     for byte in script.iter() {
         cut.push(*byte)?;

@@ -8,9 +8,9 @@ pub returns : goal.returns
 returns g c =
     let C = g.C.SimpleConnection in
     let text = c.args.text.now in
-    let reply = c.send-reply.result in
-    let mid = C.view c.send-reply.new.self in
+    let reply = c.send_own-reply.result in
+    let mid = C.view c.send_own-reply.new.conn in
     let new = C.view c.settle.new.conn in
     let made = done c.begun-outcome.result.reply c.begun-outcome.result.status in
-    text_first C.is_honest text text (λ d r s. Stop (begun r s)) reply (C.view c.args.conn.now) mid new c.settle.result refl c.send-reply.ensures.tells
+    text_first C.is_honest text text (λ d r s. Stop (begun r s)) reply (C.view c.args.conn.now) mid new c.settle.result refl c.send_own-reply.ensures.tells
     (settles C.is_honest begun reply _ made mid new c.settle.result c.begun-outcome.ensures c.status.ensures c.settle.ensures.reply c.settle.ensures.status)

@@ -1,44 +1,43 @@
-use Rattle.std.proofs.Common.{◌≡◌, ap, sym, subst, ◌∙◌, arith, Ok, None}
+use Rattle.std.proofs.Common.{ap, sym, subst, ◌∙◌, arith, Ok}
 use Rattle.std.specs.Option.{option_map}
-use Rattle.conn_reading.specs.Seats.{at_number}
-use Rattle.conn_session.specs.Steps.{DoesOn}
-use Rattle.conn_session.specs.Worlds.{Pool, view_of, pool_of, world_of}
+use Rattle.conn_report.specs.declared.entry.Reply.TheVariants as replies
+use Rattle.conn_session.specs.Steps.{AnswersOn}
+use Rattle.conn_session.specs.Worlds.{Pool, world_of}
 use Rattle.conn_session.proofs.Deeds.{on_absent, on_place, on_left, honest_place}
 use Rattle.conn_session.proofs.Shown.{place-at, pool-with_item}
 use Rattle.conn_session.proofs.Numbers.{at_number-map, at_number-past}
-use Rattle.conn_session.proofs.session.Session.act.Goals.{then-place-len+in_default, else-place-len}
 use Rattle.conn_session.proofs.session.Session.act.Goals as goal
 
 pub returns-in-Some : goal.returns-in-Some
 returns-in-Some g c =
-    let seen = g.S.Server.seen in
+    let view = g.C.SimpleConnection.view in
     let honest = g.K.Connector.is_honest in
     let k = g.K.Connector.held c.args.connector.now in
-    let w = world_of seen c.args.self.now k in
+    let w = world_of view c.args.self.now k in
     let out = c.args.self.now.out in
-    let there = place-at (view_of seen) c.args.n out.items c.index_mut.result.now (omega (arith, out.ok.0, c.len.ensures, c.if-place-len.true)) c.index_mut.ensures.value in
-    subst (λ (p : Pool). DoesOn honest c.args.line c.args.n c.args.word c.args.deed.now w (record { pool = p; connector = k }) c.in-Some.result) (sym (pool-with_item seen c.args.self.now c.args.n c.act_in.new.place))
-    (on_place honest g.S.Server.is_honest g.met.K.Connector.opens_honest c.args.line c.args.n c.args.word c.args.deed.now w (option_map (view_of seen) c.index_mut.result.now) (option_map (view_of seen) c.act_in.new.place) c.in-Some.result there c.in-Some.ensures
-    (λ h. honest_place seen (g.met.S.Server.honesty (g.met.K.Connector.opens_honest h)) c.act_in.new.place) c.requires)
+    let there = place-at view c.args.n out.items c.index_mut.result.now (omega (arith, out.ok.0, c.len.ensures, c.if-place-len.true)) c.index_mut.ensures.value in
+    subst (λ (p : Pool). AnswersOn honest c.args.n c.args.deed.now w (record { pool = p; connector = k }) c.in-Some.result) (sym (pool-with_item view c.args.self.now c.args.n c.act_in.new.place))
+    (λ line word. on_place honest g.C.SimpleConnection.is_honest (λ h. g.met.C.Establish.same_honesty ∙ g.met.K.Connector.opens_honest h) line c.args.n word c.args.deed.now w (option_map view c.index_mut.result.now) (option_map view c.act_in.new.place) c.in-Some.result there c.in-Some.ensures
+    (λ h. honest_place view (g.met.C.SimpleConnection.honesty (g.met.C.Establish.same_honesty ∙ g.met.K.Connector.opens_honest h)) c.act_in.new.place) c.requires)
 
-pub returns : goal.returns
-returns g c =
-    let seen = g.S.Server.seen in
+pub returns-in_default : goal.returns-in_default
+returns-in_default g c =
+    let view = g.C.SimpleConnection.view in
     let honest = g.K.Connector.is_honest in
     let k = g.K.Connector.held c.args.connector.now in
-    let w = world_of seen c.args.self.now k in
+    let w = world_of view c.args.self.now k in
     let out = c.args.self.now.out in
     let n = c.args.n in
-    let left : (at_number n w.pool.out ≡ None) × (pool_of seen c.if-place-len.self ≡ w.pool) = elim c.if-place-len.branch [
-      | then-place-len+in_default b ↦ (
-          let there = place-at (view_of seen) n out.items b.index_mut.result.now (omega (arith, out.ok.0, c.len.ensures, b.if-place-len.true)) b.index_mut.ensures.value in
-          let same = on_left honest g.S.Server.is_honest g.met.K.Connector.opens_honest c.args.line n c.args.word c.args.deed.now w (option_map (view_of seen) b.index_mut.result.now) (option_map (view_of seen) b.act_in.new.place) there b.in_default.ensures in
-          (same.0, ap (pool_of seen) b.self-is ∙ pool-with_item seen c.args.self.now n b.act_in.new.place ∙ same.1))
-      | else-place-len b ↦ (
-        at_number-map (view_of seen) n out.items ∙ ap (option_map (view_of seen)) (at_number-past n out.items (omega (arith, out.ok.0, c.len.ensures, b.if-place-len.false))),
-        ap (pool_of seen) b.self-is,
-      )
-    ] in
-    subst (λ (p : Pool). DoesOn honest c.args.line n c.args.word c.args.deed.now w (record { pool = p; connector = k }) (Ok c.entry_without.result)) (sym left.1)
-    (on_absent honest g.S.Server.is_honest g.met.K.Connector.opens_honest c.args.line n c.args.word c.args.deed.now w c.entry_without.result left.0
-    c.entry_without.ensures c.requires)
+    let there = place-at view n out.items c.index_mut.result.now (omega (arith, out.ok.0, c.len.ensures, c.if-place-len.true)) c.index_mut.ensures.value in
+    let left = on_left g.C.SimpleConnection.is_honest n c.args.deed.now w (option_map view c.index_mut.result.now) (option_map view c.act_in.new.place) there c.in_default.ensures in
+    subst (λ (p : Pool). AnswersOn honest n c.args.deed.now w (record { pool = p; connector = k }) (Ok replies.NotOut)) (sym (pool-with_item view c.args.self.now n c.act_in.new.place ∙ left.1))
+    (λ line word. on_absent honest g.C.SimpleConnection.is_honest (λ h. g.met.C.Establish.same_honesty ∙ g.met.K.Connector.opens_honest h) line n word c.args.deed.now w left.0 c.requires)
+
+pub returns-else-place-len : goal.returns-else-place-len
+returns-else-place-len g c =
+    let view = g.C.SimpleConnection.view in
+    let w = world_of g.C.SimpleConnection.view c.args.self.now (g.K.Connector.held c.args.connector.now) in
+    let out = c.args.self.now.out in
+    let n = c.args.n in
+    let none = at_number-map view n out.items ∙ ap (option_map view) (at_number-past n out.items (omega (arith, out.ok.0, c.len.ensures, c.if-place-len.false))) in
+    λ line word. on_absent g.K.Connector.is_honest g.C.SimpleConnection.is_honest (λ h. g.met.C.Establish.same_honesty ∙ g.met.K.Connector.opens_honest h) line n word c.args.deed.now w none c.requires

@@ -7,7 +7,7 @@ use Rattle.conn_session.proofs.session.Session.close.Given as goal
 
 abbrev pub invariant-loop-place : goal.invariant-loop-place
 invariant-loop-place g l =
-    let views = views_of g.S.Server.seen in
+    let views = views_of g.C.SimpleConnection.view in
     GivesBackSome (views l.fn.self.out.items) (g.K.Connector.held l.fn.connector) (views l.out.items) (g.K.Connector.held l.connector)
 
 abbrev pub decreases-loop-place : goal.decreases-loop-place
@@ -15,7 +15,7 @@ decreases-loop-place g l = vec_len l.out
 
 abbrev pub invariant-loop-slot : goal.invariant-loop-slot
 invariant-loop-slot g l =
-    let views = views_of g.S.Server.seen in
+    let views = views_of g.C.SimpleConnection.view in
     (mid : Connected) × GivesBackSome (views l.fn.self.out.items) (g.K.Connector.held l.fn.connector) [] mid
     × GivesBackSome (views l.fn.self.slots.items) mid (views l.slots.items) (g.K.Connector.held l.connector)
 

@@ -1,0 +1,5 @@
+pub mod Placing
+pub mod Indexing
+pub mod Closing
+pub mod Sounding
+pub mod Turning

@@ -1,0 +1,9 @@
+pub mod QueryViews
+pub mod Keys
+pub mod KeyLaws
+pub mod Preparers
+pub mod Registers
+pub mod Lookups
+pub mod Sizes
+pub mod Soundness
+pub mod Turns

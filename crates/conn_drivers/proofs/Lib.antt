@@ -1,0 +1,4 @@
+pub mod Heard
+pub mod Sent
+pub mod Executed
+pub mod Endings
