@@ -3,7 +3,7 @@ use Rattle.std.proofs.Common.{◌≡◌, ℕ, ◌+◌, Bool, true, false, List, 
 use Rattle.std.specs.Prelude.{if◌then◌else◌, slice_get, option_map}
 use Rattle.conn_model.specs.declared.value.BindType.{BindType}
 use Rattle.conn_cache.specs.declared.entry.Due.TheVariants.{Found, Clash}
-use Rattle.conn_cache.specs.declared.entry.CacheEntry.{CacheEntry}
+use Rattle.conn_model.specs.declared.cache.CacheEntry.{CacheEntry}
 use Rattle.conn_cache.specs.declared.key.StatementCacheKey.{StatementCacheKey}
 use Rattle.conn_cache.specs.Keys.{KeyPlaces, key_of, place_at, same_key}
 use Rattle.conn_cache.specs.QueryViews.{QueryView}

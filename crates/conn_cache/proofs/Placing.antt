@@ -1,7 +1,7 @@
 -- Where the first entry of a key stands.
 use Rattle.std.proofs.Common.{◌≡◌, ℕ, zero, suc, ◌+◌, true, false, List, [], ◌∷◌, ◌++◌, length, Some, None, ap, ◌∙◌, refl, arith}
 use Rattle.std.specs.Prelude.{if◌then◌else◌, slice_get}
-use Rattle.conn_cache.specs.declared.entry.CacheEntry.{CacheEntry}
+use Rattle.conn_model.specs.declared.cache.CacheEntry.{CacheEntry}
 use Rattle.conn_cache.specs.declared.key.StatementCacheKey.{StatementCacheKey}
 use Rattle.conn_cache.specs.KeyLaws.{key_equiv}
 use Rattle.conn_cache.specs.Keys.{same_key}

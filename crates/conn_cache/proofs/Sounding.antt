@@ -8,7 +8,7 @@ use Rattle.conn_model.specs.Events.{Heeded}
 use Rattle.conn_model.specs.declared.value.BindType.{BindType}
 use Rattle.conn_cache.specs.declared.entry.Due.{Due}
 use Rattle.conn_cache.specs.declared.entry.Due.TheVariants.{Plain, Found, Clash, Exhausted, New}
-use Rattle.conn_cache.specs.declared.entry.CacheEntry.{CacheEntry}
+use Rattle.conn_model.specs.declared.cache.CacheEntry.{CacheEntry}
 use Rattle.conn_cache.specs.declared.preparer.PrepareForCache.{PrepareForCache}
 use Rattle.conn_cache.specs.declared.preparer.PrepareForCache.TheVariants.{Yes, No}
 use Rattle.conn_cache.specs.declared.statement_cache.MaybeCached.{MaybeCached}
@@ -18,7 +18,8 @@ use Rattle.conn_cache.specs.Keys.{key_of, same_types}
 use Rattle.conn_cache.specs.Lookups.{AnswersOnly, LooksUp, LooksUpBy, new_answer, plain_answer, statements_after}
 use Rattle.conn_cache.specs.Preparers.{IsApart, IsFresh, IsServed, StandStill}
 use Rattle.conn_cache.specs.QueryViews.{QueryView}
-use Rattle.conn_cache.specs.Registers.{Cache, Register, due, due_at, due_new, entry_of, is_entry_of, is_looked_up, place_from, register_after}
+use Rattle.conn_model.specs.Caches.{Cache, Register}
+use Rattle.conn_cache.specs.Registers.{due, due_at, due_new, entry_of, is_entry_of, is_looked_up, place_from, register_after}
 use Rattle.conn_cache.specs.Soundness.{AreApart, AreOwn, IsOwnAnswer, IsOwnStatement, IsSound}
 use Rattle.conn_cache.proofs.Placing.{found_place}
 

@@ -7,17 +7,18 @@ use Rattle.conn_model.specs.Events.{Heeded}
 use Rattle.conn_model.specs.declared.value.BindType.{BindType}
 use Rattle.conn_cache.specs.declared.entry.Due.{Due}
 use Rattle.conn_cache.specs.declared.entry.Due.TheVariants.{Plain, Found, Clash, Exhausted, New}
-use Rattle.conn_cache.specs.declared.entry.CacheEntry.{CacheEntry}
+use Rattle.conn_model.specs.declared.cache.CacheEntry.{CacheEntry}
 use Rattle.conn_cache.specs.declared.key.StatementCacheKey.{StatementCacheKey}
 use Rattle.conn_cache.specs.declared.preparer.PrepareForCache.{PrepareForCache}
-use Rattle.conn_cache.specs.declared.size.CacheSize.{CacheSize}
-use Rattle.conn_cache.specs.declared.size.CacheSize.TheVariants.{Unbounded, Disabled}
+use Rattle.conn_model.specs.declared.cache.CacheSize.{CacheSize}
+use Rattle.conn_model.specs.declared.cache.CacheSize.TheVariants.{Unbounded, Disabled}
 use Rattle.conn_cache.specs.declared.statement_cache.MaybeCached.{MaybeCached}
 use Rattle.conn_cache.specs.KeyLaws.{key_equiv}
 use Rattle.conn_cache.specs.Keys.{key_of, same_key}
 use Rattle.conn_cache.specs.Lookups.{LooksUp, LooksUpBy}
 use Rattle.conn_cache.specs.QueryViews.{QueryView}
-use Rattle.conn_cache.specs.Registers.{Cache, Register, due, due_at, entry_key, entry_of, is_entry_of, is_looked_up, place_from, register_after, register_sized, same_size}
+use Rattle.conn_model.specs.Caches.{same_size, Cache, Register}
+use Rattle.conn_cache.specs.Registers.{due, due_at, entry_key, entry_of, is_entry_of, is_looked_up, place_from, register_after, register_sized}
 use Rattle.conn_cache.specs.Turns.{IsRising, StaysUnbounded, LookUp, Size, TakesTurn, Turn, due_beside, number_due, numbers_through, register_by, register_due, register_through}
 use Rattle.conn_cache.proofs.Placing.{place_behind}
 

@@ -7,3 +7,5 @@ pub mod Lookups
 pub mod Sizes
 pub mod Soundness
 pub mod Turns
+pub mod Faults
+pub mod QueryProcesses

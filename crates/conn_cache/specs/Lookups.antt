@@ -13,7 +13,8 @@ use Rattle.conn_cache.specs.declared.statement_cache.MaybeCached.{MaybeCached}
 use Rattle.conn_cache.specs.declared.statement_cache.MaybeCached.TheVariants.{CannotCache, Cached}
 use Rattle.conn_cache.specs.Preparers.{IsPreparersError}
 use Rattle.conn_cache.specs.QueryViews.{QueryView}
-use Rattle.conn_cache.specs.Registers.{Cache, due, register_after}
+use Rattle.conn_model.specs.Caches.{Cache}
+use Rattle.conn_cache.specs.Registers.{due, register_after}
 
 -- a place that is given is one of so many
 abbrev pub IsCachedWithin : {T : Type 0} → ℕ → MaybeCached T → Type 0

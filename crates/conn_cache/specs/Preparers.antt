@@ -34,3 +34,8 @@ IsApart t (u ∷ us) = (u ≡ t → ⊥) × IsApart t us
 -- each statement but these that stood for a text still does
 abbrev pub StandBeside : {T : Type 0} → List T → (before after : T → List ℕ → Type 0) → Type 0
 StandBeside {T} ts before after = (u : T) (text : List ℕ) → IsApart u ts → before u text → after u text
+
+-- each of these stands for a text
+abbrev pub EachStands : {T : Type 0} → (T → List ℕ → Type 0) → List T → Type 0
+EachStands stands [] = ⊤
+EachStands stands (t ∷ ts) = ((text : List ℕ) × stands t text) × EachStands stands ts

@@ -1,26 +1,16 @@
 -- What a cache knows of its statements, and what a look-up in it comes to.
 use Rattle.std.specs.Prelude.{◌≡◌, ℕ, ◌+◌, ◌-◌, ◌^◌, ◌<◌, nat_eq, Bool, true, false, if◌then◌else◌, ◌&&◌, List, [], ◌∷◌, ◌++◌, Option, Some, None, ⊤, option_map}
+use Rattle.conn_model.specs.Caches.{Register, same_size}
 use Rattle.conn_model.specs.Classes.{same_text}
 use Rattle.conn_model.specs.declared.value.BindType.{BindType}
 use Rattle.conn_cache.specs.declared.entry.Due.{Due}
 use Rattle.conn_cache.specs.declared.entry.Due.TheVariants.{Plain, Found, Clash, Exhausted, New}
-use Rattle.conn_cache.specs.declared.entry.CacheEntry.{CacheEntry}
+use Rattle.conn_model.specs.declared.cache.CacheEntry.{CacheEntry}
 use Rattle.conn_cache.specs.declared.key.StatementCacheKey.{StatementCacheKey}
-use Rattle.conn_cache.specs.declared.size.CacheSize.{CacheSize}
-use Rattle.conn_cache.specs.declared.size.CacheSize.TheVariants.{Unbounded, Disabled}
+use Rattle.conn_model.specs.declared.cache.CacheSize.{CacheSize}
+use Rattle.conn_model.specs.declared.cache.CacheSize.TheVariants.{Unbounded, Disabled}
 use Rattle.conn_cache.specs.Keys.{KeyPlaces, key_by, key_of, place_at, same_key, same_types}
 use Rattle.conn_cache.specs.QueryViews.{QueryView}
-
--- a cache without its statements: its size, the numbers that it gave, and an entry for each statement
-pub record Register : Type 0 where
-  pub size : CacheSize
-  pub counter : ℕ
-  pub entries : List CacheEntry
-
--- a cache, with the statement of each entry at the entry's place
-pub record Cache (T : Type 0) : Type 0 where
-  pub register : Register
-  pub statements : List T
 
 -- the key of an entry
 abbrev pub entry_key : CacheEntry → StatementCacheKey
@@ -73,13 +63,6 @@ IsWithin places counter New = counter < 2 ^ 64 - 1
 abbrev pub register_after : QueryView → List BindType → Bool → Register → Register
 register_after q types true r = record r { counter = r.counter + 1; entries = r.entries ++ entry_of q types (r.counter + 1) ∷ [] }
 register_after q types false r = record r { counter = r.counter + 1 }
-
--- the two sizes are one
-abbrev pub same_size : CacheSize → CacheSize → Bool
-same_size Unbounded Unbounded = true
-same_size Unbounded Disabled = false
-same_size Disabled Unbounded = false
-same_size Disabled Disabled = true
 
 -- the register after this size was set: another size empties it, and the counter stays
 abbrev pub register_sized : CacheSize → Register → Register

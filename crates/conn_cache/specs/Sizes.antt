@@ -1,7 +1,8 @@
 -- What setting a size does.
 use Rattle.std.specs.Prelude.{◌≡◌, Bool, true, false, List, [], ◌∷◌, reverse}
-use Rattle.conn_cache.specs.declared.size.CacheSize.{CacheSize}
-use Rattle.conn_cache.specs.Registers.{Cache, register_sized, same_size}
+use Rattle.conn_model.specs.declared.cache.CacheSize.{CacheSize}
+use Rattle.conn_model.specs.Caches.{same_size, Cache}
+use Rattle.conn_cache.specs.Registers.{register_sized}
 
 -- these were closed, one after the other
 abbrev pub ClosesAll : {P T : Type 0} → (P → T → P → Type 0) → P → List T → P → Type 0

@@ -1,11 +1,11 @@
 -- The statements of a cache stand for their texts.
 use Rattle.std.specs.Prelude.{◌≡◌, ℕ, Bool, true, List, [], ◌∷◌, Some, None, Option, Result, Ok, Err, slice_get, ⊤}
 use Rattle.conn_result.specs.declared.error.Error.{Error}
-use Rattle.conn_cache.specs.declared.entry.CacheEntry.{CacheEntry}
+use Rattle.conn_model.specs.declared.cache.CacheEntry.{CacheEntry}
 use Rattle.conn_cache.specs.declared.statement_cache.MaybeCached.{MaybeCached}
 use Rattle.conn_cache.specs.declared.statement_cache.MaybeCached.TheVariants.{CannotCache, Cached}
 use Rattle.conn_cache.specs.Preparers.{IsApart}
-use Rattle.conn_cache.specs.Registers.{Cache}
+use Rattle.conn_model.specs.Caches.{Cache}
 
 -- each statement stands for its entry's text
 abbrev pub AreOwn : {T : Type 0} → (T → List ℕ → Type 0) → List CacheEntry → List T → Type 0

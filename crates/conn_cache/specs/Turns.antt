@@ -4,11 +4,12 @@ use Rattle.conn_model.specs.Classes.{same_text}
 use Rattle.conn_model.specs.declared.value.BindType.{BindType}
 use Rattle.conn_cache.specs.declared.entry.Due.{Due}
 use Rattle.conn_cache.specs.declared.entry.Due.TheVariants.{Found, Clash, New}
-use Rattle.conn_cache.specs.declared.size.CacheSize.{CacheSize}
-use Rattle.conn_cache.specs.declared.size.CacheSize.TheVariants.{Unbounded}
+use Rattle.conn_model.specs.declared.cache.CacheSize.{CacheSize}
+use Rattle.conn_model.specs.declared.cache.CacheSize.TheVariants.{Unbounded}
 use Rattle.conn_cache.specs.Keys.{same_types}
 use Rattle.conn_cache.specs.QueryViews.{QueryView}
-use Rattle.conn_cache.specs.Registers.{Register, due, register_after, register_sized}
+use Rattle.conn_model.specs.Caches.{Register}
+use Rattle.conn_cache.specs.Registers.{due, register_after, register_sized}
 
 -- a look-up of a query with types of its binds, whose prepare is accepted or not where a new entry is due; or a size
 pub data Turn : Type 0 where

@@ -3,7 +3,8 @@ ghost use Rattle.std.specs.Prelude.{◌≡◌, Bool, true, false, List, length};
 ghost use Rattle.conn_model.specs.declared.value.BindType.{BindType};
 ghost use Rattle.conn_cache.specs.Keys.{key_of};
 ghost use Rattle.conn_cache.specs.QueryViews.{QueryView};
-ghost use Rattle.conn_cache.specs.Registers.{Register, due, register_after};
+ghost use Rattle.conn_model.specs.Caches.{Register};
+ghost use Rattle.conn_cache.specs.Registers.{due, register_after};
 ghost use Rattle.conn_cache.specs.Turns.{IsRising, StaysUnbounded, LookUp, Turn, due_beside, numbers_through, register_by, register_through};
 ghost use Rattle.conn_cache.specs.declared.entry.Due.TheVariants.{New};
 

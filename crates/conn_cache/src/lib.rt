@@ -7,15 +7,14 @@ mod key_table;
 mod laws;
 mod preparer;
 mod query;
-mod size;
 mod statement_cache;
 #[cfg(test)]
 mod tests;
 
-pub use entry::{CacheEntry, Due};
+pub use conn_model::{CacheEntry, CacheSize};
+pub use entry::Due;
 pub use key::StatementCacheKey;
 pub use laws::{a_kept_statement_is_found, counters_rise, unsafe_adds_nothing};
 pub use preparer::{PrepareForCache, Preparer};
 pub use query::Query;
-pub use size::CacheSize;
 pub use statement_cache::{MaybeCached, StatementCache};

@@ -63,6 +63,6 @@ pub trait Preparer<T> {
     /// A prepare changes nothing of the others.
     ghost others_stay: { (p q : Self) (sql : List ℕ) (how : PrepareForCache) (types : List BindType) (r : Result T Error) → prepares p sql how types r q → StandStill (stands p) (stands q) };
 
-    /// Nor does a close.
-    ghost others_stay_open: { (p q : Self) (t : T) → closes p t q → StandBeside (t ∷ []) (stands p) (stands q) };
+    /// Nor does the close of one that stood for a text.
+    ghost others_stay_open: { (p q : Self) (t : T) (text : List ℕ) → stands p t text → closes p t q → StandBeside (t ∷ []) (stands p) (stands q) };
 }

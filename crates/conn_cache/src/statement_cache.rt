@@ -1,11 +1,12 @@
 //! The cache of statements.
 ghost use Rattle.std.specs.Prelude.{◌≡◌, ◌<◌, ◌^◌, ◌-◌, ℕ, List, [], length, slice_get, option_copied, IfOk, true};
-ghost use Rattle.conn_cache.specs.Preparers.{StandBeside};
+ghost use Rattle.conn_cache.specs.Preparers.{EachStands, StandBeside};
 ghost use Rattle.conn_cache.specs.Sizes.{ClosesBack};
+ghost use Rattle.conn_cache.specs.Soundness.{AreApart};
 
-use crate::entry::{CacheEntry, Due};
+use crate::entry::{Due, entry_of, is_entry_of};
 use crate::key_table::KeyTable;
-use crate::{CacheSize, PrepareForCache, Preparer, Query, StatementCacheKey};
+use crate::{CacheEntry, CacheSize, PrepareForCache, Preparer, Query, StatementCacheKey};
 use conn_manager::{Instrumentation, InstrumentationEvent};
 use conn_model::BindType;
 use conn_result::{Error, QueryResult};
@@ -34,7 +35,8 @@ pub struct StatementCache<T> {
 
 impl<T> Model for StatementCache<T> {
     ghost use Rattle.std.specs.Prelude.{◌≡◌, length};
-    ghost use Rattle.conn_cache.specs.Registers.{Cache, HasPlaces};
+    ghost use Rattle.conn_model.specs.Caches.{Cache};
+    ghost use Rattle.conn_cache.specs.Registers.{HasPlaces};
 
     ghost Value = { Cache T };
 
@@ -49,7 +51,7 @@ impl<T> Model for StatementCache<T> {
 
 impl<T: Drop> StatementCache<T> {
     ghost use Rattle.conn_cache.specs.declared.key.StatementCacheKey.{StatementCacheKey as key_type};
-    ghost use Rattle.conn_cache.specs.declared.size.CacheSize.TheVariants.{Unbounded};
+    ghost use Rattle.conn_model.specs.declared.cache.CacheSize.TheVariants.{Unbounded};
     ghost use Rattle.conn_cache.specs.Keys.{key_of};
     ghost use Rattle.conn_cache.specs.Registers.{due, due_at, place_from, is_looked_up, IsWithin};
     ghost use Rattle.conn_cache.specs.Lookups.{LooksUp, Adds, HasPreparersCause, IsCachedWithin};
@@ -98,7 +100,7 @@ impl<T: Drop> StatementCache<T> {
             → P.has_room preparer.new text }
         ensures sound { IsSound (P.stands preparer.old) self.old
             → IsSound (P.stands preparer.new) self.new }
-        ensures others { StandBeside self.old.statements
+        ensures others { IsSound (P.stands preparer.old) self.old → StandBeside self.old.statements
             (P.stands preparer.old) (P.stands preparer.new) }
     {
         if size != self.size {
@@ -180,7 +182,7 @@ impl<T: Drop> StatementCache<T> {
         ensures within { IsWithin (length self.now.statements) self.now.register.counter result }
     {
         match self.table.find(key) {
-            Some(place) if self.entries[place].is_of(source, types) => Due::Found(place),
+            Some(place) if is_entry_of(source, types, &self.entries[place]) => Due::Found(place),
             Some(_) => Due::Clash,
             None if self.counter == u64::MAX => Due::Exhausted,
             None => Due::New,
@@ -206,7 +208,7 @@ impl<T: Drop> StatementCache<T> {
             result }
     {
         let counter = self.counter + 1;
-        let entry = CacheEntry::for_source(self.alloc, source, types, counter)?;
+        let entry = entry_of(self.alloc, source, types, counter)?;
         self.table.reserve()?;
         self.entries.reserve(1)?;
         self.statements.reserve(1)?;
@@ -228,8 +230,9 @@ fn close_all<T: Drop, P: Preparer<T>>(statements: &mut Vec<T>, preparer: &mut P)
     ensures closes { ClosesBack P.closes preparer.old statements.old.items preparer.new }
     ensures uncounted { P.failures preparer.new ≡ P.failures preparer.old }
     ensures room { (text : List ℕ) → P.has_room preparer.old text → P.has_room preparer.new text }
-    ensures others { StandBeside statements.old.items
-        (P.stands preparer.old) (P.stands preparer.new) }
+    ensures others { AreApart statements.old.items
+        → EachStands (P.stands preparer.old) statements.old.items
+        → StandBeside statements.old.items (P.stands preparer.old) (P.stands preparer.new) }
 {
     while let Some(statement) = statements.pop() {
         preparer.close(statement);

@@ -138,7 +138,7 @@ impl Preparer<Statement> for Numbering {
 
     ghost others_stay = { λ p q sql how types r did u text s. (le_trans s.0 did.0, s.1) };
 
-    ghost others_stay_open = { λ p t q closed u text apart s. (subst (λ n. u.number < n) (sym closed) s.0, s.1) };
+    ghost others_stay_open = { λ p q t own stood closed u text apart s. (subst (λ n. u.number < n) (sym closed) s.0, s.1) };
 }
 
 /// Counts the statements that are to be kept, and what else it is told.

@@ -15,7 +15,8 @@ use Rattle.conn_model.proofs.Goes.{stops, IsSameServer-trans}
 use Rattle.conn_manager.specs.Manages.{Done, Reply, HasServerCause, done}
 use Rattle.conn_manager.specs.Setups.{execute_text, execute_texts, run_ready, run_text, unless_refused}
 use Rattle.conn_manager.specs.Statuses.{Status, reply_of}
-use Rattle.conn_drivers.specs.Wires.{Asks, Executes, Hears, OpensIf, OpensStatement, prepare_text, reply_with}
+use Rattle.conn_drivers.specs.Wires.{Asks, Executes, Hears, OpensIf, OpensStatement, prepare_text}
+use Rattle.conn_cache.specs.QueryProcesses.{without_value}
 use Rattle.conn_drivers.proofs.Heard.{heard_then, replied_then}
 
 -- PostgreSQL ran a text
@@ -118,26 +119,26 @@ module _ (honest : Bool) where
 -- ---- a text that is prepared first
 
 -- the prepare was refused
-pub asks_refused : (honest : Bool) (text : List ℕ) (old new : Seen) (s s1 : Status) (result : Result ℕ Error) (e : Error) (reply : Reply) → result ≡ Err e → reply ≡ Err e → Hears honest (Prepare None) text old new s s1 (reply_with result)
-    → HasServerCause old new (reply_with result) → OpensIf text old.open_statements new.open_statements result → old.item_room ≤ new.item_room + 1 → old.byte_room ≤ new.byte_room + length text → Asks honest prepare_text text old new s s1 reply
+pub asks_refused : (honest : Bool) (text : List ℕ) (old new : Seen) (s s1 : Status) (result : Result ℕ Error) (e : Error) (reply : Reply) → result ≡ Err e → reply ≡ Err e → Hears honest (Prepare None) text old new s s1 (without_value result)
+    → HasServerCause old new (without_value result) → OpensIf text old.open_statements new.open_statements result → old.item_room ≤ new.item_room + 1 → old.byte_room ≤ new.byte_room + length text → Asks honest prepare_text text old new s s1 reply
 asks_refused honest text old new s s1 result e reply is answers hears cause opens items bytes =
-    let refused : Hears honest (Prepare None) text old new s s1 (Err e) = subst (λ (r : Result ℕ Error). Hears honest (Prepare None) text old new s s1 (reply_with r)) is hears in
+    let refused : Hears honest (Prepare None) text old new s s1 (Err e) = subst (λ (r : Result ℕ Error). Hears honest (Prepare None) text old new s s1 (without_value r)) is hears in
     subst (λ (r : Reply). Asks honest prepare_text text old new s s1 r) (sym answers) (record {
       then = refused_first honest text old new s s1 e refused;
       same = refused.acts.same;
-      cause = subst (λ (r : Result ℕ Error). HasServerCause old new (reply_with r)) is cause;
+      cause = subst (λ (r : Result ℕ Error). HasServerCause old new (without_value r)) is cause;
       shut = subst (λ (r : Result ℕ Error). OpensIf text old.open_statements new.open_statements r) is opens;
       items = omega (arith, items);
       bytes = omega (arith, bytes);
     })
 
 -- what was prepared was run, and its statement closed
-pub asks_prepared : (honest : Bool) (text : List ℕ) (statement : ℕ) (old mid new shut : Seen) (s s1 s2 : Status) (result : Result ℕ Error) (r : Reply) → result ≡ Ok statement → Hears honest (Prepare None) text old mid s s1 (reply_with result)
-    → HasServerCause old mid (reply_with result) → OpensIf text old.open_statements mid.open_statements result → old.item_room ≤ mid.item_room + 1 → old.byte_room ≤ mid.byte_room + length text
+pub asks_prepared : (honest : Bool) (text : List ℕ) (statement : ℕ) (old mid new shut : Seen) (s s1 s2 : Status) (result : Result ℕ Error) (r : Reply) → result ≡ Ok statement → Hears honest (Prepare None) text old mid s s1 (without_value result)
+    → HasServerCause old mid (without_value result) → OpensIf text old.open_statements mid.open_statements result → old.item_room ≤ mid.item_room + 1 → old.byte_room ≤ mid.byte_room + length text
     → Hears honest (Run []) (text_of mid.open_statements (Prepared statement)) mid new s1 s2 r → HasServerCause mid new r → new.open_statements ≡ mid.open_statements → mid.item_room ≤ new.item_room + 2
     → mid.byte_room ≤ new.byte_room + length (text_of mid.open_statements (Prepared statement)) → shut ≡ closes statement new → Asks honest prepare_text text old shut s s2 r
 asks_prepared honest text statement old mid new shut s s1 s2 result r is hears cause opens items bytes ran cause2 open' items2 bytes2 is_shut =
-    let prepared : Hears honest (Prepare None) text old mid s s1 (Ok tt) = subst (λ (x : Result ℕ Error). Hears honest (Prepare None) text old mid s s1 (reply_with x)) is hears in
+    let prepared : Hears honest (Prepare None) text old mid s s1 (Ok tt) = subst (λ (x : Result ℕ Error). Hears honest (Prepare None) text old mid s s1 (without_value x)) is hears in
     let opened : OpensStatement text old.open_statements mid.open_statements statement = subst (λ (x : Result ℕ Error). OpensIf text old.open_statements mid.open_statements x) is opens in
     let words : text_of mid.open_statements (Prepared statement) ≡ text = ap (λ (o : Option (List ℕ)). unwrap_or o []) opened.runs in
     let after = caused_after old mid new r cause.later cause2 in

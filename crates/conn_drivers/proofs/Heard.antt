@@ -1,5 +1,5 @@
 -- One call was heard on a wire, and then what follows it.
-use Rattle.std.proofs.Common.{◌≡◌, ℕ, nat_eq, arith, Bool, true, false, cond, List, [], ◌∷◌, refl, ap, sym, ◌∙◌, subst, Option, Some, None, Result, Ok, Err}
+use Rattle.std.proofs.Common.{◌≡◌, ℕ, ◌+◌, ◌≤◌, length, nat_eq, arith, Bool, true, false, cond, List, [], ◌∷◌, refl, ap, sym, ◌∙◌, subst, Option, Some, None, Result, Ok, Err}
 use Rattle.std.specs.Result.{result_err}
 use Rattle.std.proofs.lemmas.Bool.Decides.{nat_tests}
 use Rattle.conn_model.specs.Acts.{Acts}
@@ -18,11 +18,17 @@ use Rattle.conn_model.specs.declared.reply.RunReply.{RunReply}
 use Rattle.conn_model.specs.declared.value.Bind.{Bind}
 use Rattle.conn_model.proofs.Goes.{goes_on, hears, stays, stops}
 use Rattle.conn_model.proofs.Statements.{hears_prepare, hears_run}
-use Rattle.conn_manager.specs.Manages.{Done, Reply, ask, bare_process, bare_text, done}
+use Rattle.conn_manager.specs.Manages.{Done, HasServerCause, IsRefusal, Reply, ask, bare_process, bare_text, done}
 use Rattle.conn_manager.specs.Statuses.{Status, reply_of, retold}
 use Rattle.conn_model.specs.Process.{Process, Stop}
-use Rattle.conn_result.specs.declared.error.Error.TheVariants.{InvalidCString}
-use Rattle.conn_drivers.specs.Wires.{Hears, OpensStatement}
+use Rattle.conn_result.specs.declared.error.Error.TheVariants.{IntegerConversion, InvalidCString}
+use Rattle.std.specs.Prelude.{◌^◌, if◌then◌else◌, nat_lt}
+use Rattle.conn_cache.specs.QueryProcesses.{affected_count, without_value}
+use Rattle.conn_result.specs.declared.error.Error.{Error}
+use Rattle.conn_drivers.specs.Prepares.{SendsPrepare, count_by, count_heard, name_of, statement_by}
+use Rattle.conn_drivers.specs.Wires.{Hears, HearsBy, OpensStatement}
+use Rattle.conn_drivers.specs.declared.statement.Statement.{Statement}
+use Rattle.conn_cache.specs.declared.preparer.PrepareForCache.{PrepareForCache}
 
 -- the status after a call, by what was told then
 pub follows_by : (old mid new : Seen) (heard : Heard) (refusal : Option Refusal) (s s1 : Status) → mid.dialect ≡ old.dialect → new ≡ mid → heard.refusal ≡ refusal → heard.told ≡ new.told → s1 ≡ retold mid.dialect refusal mid.told s
@@ -75,6 +81,65 @@ module _ (honest : Bool) (old mid new : Seen) (s s1 : Status) (reply : Reply) (s
     follows = follows_by old mid new (prepared_heard result new.told) (result_err result) s s1 (ap (λ (x : Seen). x.dialect) prepares.keeps) same (prepared_refusal result new.told) (prepared_told result new.told) made;
   }
 
+ran_count : (result : Result RunReply Refusal) (t : Told) → count_heard (ran_heard result t) ≡ count_by result
+ran_count (Ok r) t = refl
+ran_count (Err r) t = refl
+
+-- of a run whose affected rows are counted
+pub heard_count : (honest : Bool) (old mid new : Seen) (s s1 : Status) (same : new ≡ mid) (honesty : honest ≡ true → IsHonest new) (text : List ℕ) (binds : List Bind) (ran : Result RunReply Refusal) (count : Result ℕ Error) → Runs text binds old mid ran → count ≡ count_by ran
+    → s1 ≡ retold mid.dialect (result_err ran) mid.told s → HearsBy count_heard honest (Run binds) text old new s s1 count
+heard_count honest old mid new s s1 same honesty text binds ran count runs counts made = record {
+  heard = ran_heard ran new.told;
+  acts = hears_run honest text binds old mid new ran runs same honesty;
+  replies = counts ∙ sym (ran_count ran new.told);
+  follows = follows_by old mid new (ran_heard ran new.told) (result_err ran) s s1 (ap (λ (x : Seen). x.dialect) runs.keeps) same (refusal ran new.told) (told ran new.told) made;
+}
+  where
+    refusal : (r : Result RunReply Refusal) (t : Told) → (ran_heard r t).refusal ≡ result_err r
+    refusal (Ok r) t = refl
+    refusal (Err r) t = refl
+
+    told : (r : Result RunReply Refusal) (t : Told) → (ran_heard r t).told ≡ t
+    told (Ok r) t = refl
+    told (Err r) t = refl
+
+-- a count that doesn't fit is no refusal
+no_refusal : (n : ℕ) → IsRefusal (without_value (affected_count n)) → ⊥
+no_refusal n = elim (nat_lt n (2 ^ 64)) as (λ b. IsRefusal (without_value (if b then Ok n else Err IntegerConversion)) → ⊥) [ true ↦ (λ h. h) | false ↦ (λ h. h) ]
+
+-- a refusal of it was counted
+pub count_cause : (text : List ℕ) (binds : List Bind) (old mid new : Seen) (ran : Result RunReply Refusal) (count : Result ℕ Error) → count ≡ count_by ran → Runs text binds old mid ran → new ≡ mid → HasServerCause old new (without_value count)
+count_cause text binds old mid new ran count is runs same =
+    subst (λ (r : Result ℕ Error). HasServerCause old new (without_value r)) (sym is) (subst (λ (x : Seen). HasServerCause old x (without_value (count_by ran))) (sym same) (by_ran ran runs))
+  where
+    by_ran : (r : Result RunReply Refusal) → Runs text binds old mid r → HasServerCause old mid (without_value (count_by r))
+    by_ran (Ok r) runs = record { later = runs.appends.later; refused = λ h. absurd (no_refusal r.affected h) }
+    by_ran (Err r) runs = record { later = runs.appends.later; refused = λ h. runs.appends.failed }
+
+-- a statement was prepared, and what was told then was read
+pub sends_prepare : (honest : Bool) (sql : List ℕ) (how : PrepareForCache) (old mid new : Seen) (s s1 : Status) (answer : Result Prepared Refusal) (result : Result Statement Error) → new ≡ mid → (honest ≡ true → IsHonest new) → Prepares (name_of how) sql old mid answer
+    → result ≡ statement_by answer → s1 ≡ retold mid.dialect (result_err answer) mid.told s → SendsPrepare old.dialect honest sql how old new s s1 result
+sends_prepare honest sql how old mid new s s1 answer result same honesty prepares gives made =
+    let heard = prepared_heard answer new.told in
+    record {
+      answer = answer;
+      acts = hears_prepare honest (name_of how) sql old mid new answer prepares same honesty;
+      gives = gives;
+      follows = follows_by old mid new heard (result_err answer) s s1 (ap (λ (x : Seen). x.dialect) prepares.keeps) same (refusal answer new.told) (told answer new.told) made;
+      fresh = prepares.fresh;
+      opens = ap (λ (x : Seen). x.open_statements) same ∙ prepares.opens;
+      items = subst (λ (x : Seen). old.item_room ≤ x.item_room + 1) (sym same) prepares.appends.items;
+      bytes = subst (λ (x : Seen). old.byte_room ≤ x.byte_room + length sql) (sym same) prepares.appends.bytes;
+    }
+  where
+    refusal : (a : Result Prepared Refusal) (t : Told) → (prepared_heard a t).refusal ≡ result_err a
+    refusal (Ok r) t = refl
+    refusal (Err r) t = refl
+
+    told : (a : Result Prepared Refusal) (t : Told) → (prepared_heard a t).told ≡ t
+    told (Ok r) t = refl
+    told (Err r) t = refl
+
 module _ (honest : Bool) (call : Call) (text : List ℕ) (old mid : Seen) (s s1 : Status) (r : Reply) (h : Hears honest call text old mid s s1 r) where
   -- the rest, by what was heard
   pub heard_then : (next : Heard → Status → Process Done) (new : Seen) (a : Done) → Acts honest (next h.heard s1) mid new a → Acts honest (ask old.dialect call text s next) old new a
@@ -106,7 +171,7 @@ without_absent n (o ∷ os) h =
       | false ↦ (λ e. ap (λ (x : List Opened). o ∷ x) (without_absent n os e))
     ] h
 
-opens_newest : (text : List ℕ) (os : List Opened) (p : Prepared) → find_open p.statement os ≡ None → OpensStatement text os (opened_by text (Ok p) os) p.statement
+pub opens_newest : (text : List ℕ) (os : List Opened) (p : Prepared) → find_open p.statement os ≡ None → OpensStatement text os (opened_by text (Ok p) os) p.statement
 opens_newest text os p fresh =
     let same : nat_eq p.statement p.statement ≡ true = grind (arith, nat_tests) in
     record {

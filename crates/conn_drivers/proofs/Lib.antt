@@ -2,3 +2,6 @@ pub mod Heard
 pub mod Sent
 pub mod Executed
 pub mod Endings
+mod Going
+mod Readying
+mod Querying

@@ -5,6 +5,7 @@ use Rattle.std.specs.Result.{result_err}
 use Rattle.conn_result.specs.declared.error.ConnectionError.{ConnectionError}
 use Rattle.conn_result.specs.declared.error.ConnectionError.TheVariants.{InvalidCString, BadConnection, InvalidConnectionUrl, CouldntSetupConfiguration, OutOfMemory}
 use Rattle.conn_result.specs.declared.error.Error.{Error}
+use Rattle.conn_model.specs.Caches.{nothing_known}
 use Rattle.conn_model.specs.Events.{Event, Heeded, with_events, StartEstablishConnection, FinishEstablishConnection}
 use Rattle.conn_model.specs.Nuls.{nul_place}
 use Rattle.conn_model.specs.Seen.{Seen, IsHonest}
@@ -92,10 +93,11 @@ module _ (opens_honestly serves_honestly : Bool) (dialect : Dialect) (url : List
   FailsToEstablish (CouldntSetupConfiguration e number) new = RefusesSetup e number new
   FailsToEstablish OutOfMemory new = (new ≡ old) ⊎ LacksMemory new
 
-  -- a connection is established: its server is set up, and its handler was told of its opening
+  -- a connection is established: its server is set up, its handler was told of its opening, and it keeps no statement
   pub record IsEstablished (told : Heeded) (new : Connected) (v : View) : Type 0 where
     pub set_up : SetsUp new v.seen (done (Ok tt) v.status)
     pub heeds : v.heeded ≡ with_events told (establish_events url None)
+    pub cache : v.cache ≡ nothing_known
 
   -- a connection is established or not
   abbrev pub Establishes : {C : Type 0} → (C → View) → Heeded → Connected → Result C ConnectionError → Type 0

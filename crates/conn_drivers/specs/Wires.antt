@@ -1,5 +1,5 @@
 -- What is asked on a wire, without events, and what is made of what is heard.
-use Rattle.std.specs.Prelude.{◌≡◌, ◌+◌, ◌*◌, ◌≤◌, ℕ, Bool, List, length, Some, None, Result, Ok, Err, MatchResult}
+use Rattle.std.specs.Prelude.{◌≡◌, ◌+◌, ◌*◌, ◌≤◌, ℕ, Bool, List, length, Some, None, Result, MatchResult}
 use Rattle.conn_result.specs.declared.error.Error.{Error}
 use Rattle.conn_model.specs.Acts.{Acts, IsSameServer}
 use Rattle.conn_model.specs.Process.{Process, Heard, hear}
@@ -13,17 +13,16 @@ use Rattle.conn_manager.specs.Manages.{Done, Reply, ask, HasServerCause}
 use Rattle.conn_manager.specs.Setups.{run_ready, setup_texts, execute_texts}
 use Rattle.conn_manager.specs.Statuses.{Status, reply_of, retold}
 
--- an answer without its value
-abbrev pub reply_with : {T : Type 0} → Result T Error → Reply
-reply_with (Ok x) = Ok tt
-reply_with (Err e) = Err e
-
--- one call was heard, and the reply and the status are made of that
-pub record Hears (honest : Bool) (call : Call) (text : List ℕ) (old new : Seen) (s s1 : Status) (reply : Reply) : Type 0 where
+-- one call was heard, the answer is made of that, and the status follows
+pub record HearsBy {T : Type 0} (made : Heard → T) (honest : Bool) (call : Call) (text : List ℕ) (old new : Seen) (s s1 : Status) (answer : T) : Type 0 where
   pub heard : Heard
   pub acts : Acts honest (hear call text) old new heard
-  pub replies : reply ≡ reply_of heard.refusal
+  pub replies : answer ≡ made heard
   pub follows : s1 ≡ retold old.dialect heard.refusal heard.told s
+
+-- by its refusal alone
+abbrev pub Hears : Bool → Call → List ℕ → Seen → Seen → Status → Status → Reply → Type 0
+Hears honest call text old new s s1 reply = HearsBy (λ (h : Heard). reply_of h.refusal) honest call text old new s s1 reply
 
 -- a statement of this text was opened: it can be run, and once it is closed those are open that were before
 pub record OpensStatement (text : List ℕ) (old new : List Opened) (statement : ℕ) : Type 0 where

@@ -1,5 +1,9 @@
 //! A connection to any of the three.
-use crate::{Driver, Establish, MultiConnection, Mysql, Pg, R2D2Connection, RawConnection, Sqlite};
+use crate::{
+    CachingConnection, Driver, Establish, MultiConnection, Mysql, Pg, R2D2Connection,
+    RawConnection, Sqlite,
+};
+use conn_cache::{CacheSize, Query};
 use conn_manager::{
     Connection, DynInstrumentation, Instrumentation, InstrumentationEvent, SimpleConnection,
     TransactionManagerStatus,
@@ -11,7 +15,7 @@ use std::alloc::Global;
 
 /// A connection to a server of a kind that is chosen while the program runs.
 #[derive(Drop)]
-pub enum AnyConnection<S, H = DynInstrumentation> {
+pub enum AnyConnection<S: Server, H = DynInstrumentation> {
     Pg(Driver<S, Pg, H>),
     Mysql(Driver<S, Mysql, H>),
     Sqlite(Driver<S, Sqlite, H>),
@@ -115,6 +119,24 @@ impl<S: Server, H: Instrumentation + Drop> Connection for AnyConnection<S, H> {
             AnyConnection::Pg(c) => c.number(),
             AnyConnection::Mysql(c) => c.number(),
             AnyConnection::Sqlite(c) => c.number(),
+        }
+    }
+}
+
+impl<S: Server, H: Instrumentation + Drop> CachingConnection for AnyConnection<S, H> {
+    fn execute_returning_count<Q: Query>(&mut self, source: &Q) -> QueryResult<usize> {
+        match self {
+            AnyConnection::Pg(c) => c.execute_returning_count(source),
+            AnyConnection::Mysql(c) => c.execute_returning_count(source),
+            AnyConnection::Sqlite(c) => c.execute_returning_count(source),
+        }
+    }
+
+    fn set_prepared_statement_cache_size(&mut self, size: CacheSize) {
+        match self {
+            AnyConnection::Pg(c) => c.set_prepared_statement_cache_size(size),
+            AnyConnection::Mysql(c) => c.set_prepared_statement_cache_size(size),
+            AnyConnection::Sqlite(c) => c.set_prepared_statement_cache_size(size),
         }
     }
 }

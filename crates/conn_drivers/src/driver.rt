@@ -1,5 +1,6 @@
 //! The three connections, each over the one that they have in common.
-use crate::{Establish, Kind, Mysql, Pg, R2D2Connection, RawConnection, Sqlite};
+use crate::{CachingConnection, Establish, Kind, Mysql, Pg, R2D2Connection, RawConnection, Sqlite};
+use conn_cache::{CacheSize, Query};
 use conn_manager::{
     Connection, DynInstrumentation, Instrumentation, InstrumentationEvent, SimpleConnection,
     TransactionManagerStatus,
@@ -12,7 +13,7 @@ use std::marker::PhantomData;
 
 /// A connection to a server of one kind.
 #[derive(Drop)]
-pub struct Driver<S, D, H = DynInstrumentation> {
+pub struct Driver<S: Server, D, H = DynInstrumentation> {
     pub raw: RawConnection<S, H>,
     pub kind: PhantomData<D>,
 }
@@ -87,6 +88,16 @@ impl<S: Server, D: Kind, H: Instrumentation + Drop> Connection for Driver<S, D, 
 
     fn number(&self) -> u32 {
         self.raw.number()
+    }
+}
+
+impl<S: Server, D: Kind, H: Instrumentation + Drop> CachingConnection for Driver<S, D, H> {
+    fn execute_returning_count<Q: Query>(&mut self, source: &Q) -> QueryResult<usize> {
+        self.raw.execute_returning_count(source)
+    }
+
+    fn set_prepared_statement_cache_size(&mut self, size: CacheSize) {
+        self.raw.set_prepared_statement_cache_size(size)
     }
 }
 

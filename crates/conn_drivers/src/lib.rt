@@ -2,22 +2,31 @@
 #![tactic(auto)]
 
 mod any;
+mod caching;
 mod driver;
 mod establish;
+mod faults;
 mod kinds;
 mod opening;
+mod ping;
+mod queries;
 mod r2d2;
 mod raw;
+mod room;
 mod setup;
+mod statement;
 #[cfg(test)]
 mod tests;
 mod wire;
 
 pub use any::AnyConnection;
+pub use caching::{CachingConnection, execute};
+pub use conn_cache::{CacheSize, Query};
 pub use driver::{Driver, MysqlConnection, PgConnection, SqliteConnection};
 pub use establish::{Establish, MultiConnection};
 pub use kinds::{Kind, Mysql, Pg, Sqlite};
 pub use mysql_url::{CapabilityFlags, ConnectionOptions};
 pub use r2d2::R2D2Connection;
 pub use raw::RawConnection;
+pub use statement::Statement;
 pub use wire::Wire;

@@ -1,33 +1,54 @@
 //! A connection over any server: what the three have in common, once.
 ghost use Rattle.std.specs.Prelude.{◌≡◌};
-ghost use Rattle.conn_drivers.specs.Establishing.{Establishes};
-ghost use Rattle.conn_drivers.specs.Raws.{shows};
+ghost use Rattle.std.specs.Prelude.{◌+◌, length, IfErr};
+ghost use Rattle.conn_result.specs.declared.error.Error.TheVariants.{OutOfMemory};
+ghost use Rattle.conn_model.specs.Served.{Reserves};
+ghost use Rattle.conn_model.specs.Statements.{run_bytes};
+ghost use Rattle.conn_drivers.specs.Standing.{AreHeld, held_prop};
 
-use crate::Wire;
+use crate::faults::query_fault;
 use crate::opening::open_telling;
+use crate::room::query_bytes;
+use crate::{CachingConnection, Statement, Wire};
+use conn_cache::{CacheSize, Query, StatementCache};
 use conn_manager::{
     Connection, Instrumentation, InstrumentationEvent, SimpleConnection, StrQueryHelper,
     TransactionManagerStatus,
 };
 use conn_model::Dialect;
-use conn_result::{ConnectionResult, QueryResult};
+use conn_result::{ConnectionResult, Error, QueryResult};
 use conn_server::{Connector, Server};
 use std::alloc::Global;
 
-/// A wire, and the handler that is told of what happens on it.
+/// A wire, the handler that is told of what happens on it, and the cache of its statements.
 #[derive(Drop)]
-pub struct RawConnection<S, H> {
+pub struct RawConnection<S: Server, H> {
     pub wire: Wire<S>,
     pub handler: H,
+    pub cache: StatementCache<Statement>,
+    /// Each kept statement is open on the server, with its entry's text.
+    pub ghost held: { AreHeld (S.seen wire.server).open_statements cache } by { held_prop (S.seen wire.server).open_statements cache },
 }
 
 impl<S: Server, H: Instrumentation + Drop> RawConnection<S, H> {
-    /// A connection over this wire.
-    pub fn new(wire: Wire<S>, handler: H) -> RawConnection<S, H>
+    ghost use Rattle.conn_model.specs.Caches.{nothing_known};
+    ghost use Rattle.conn_cache.specs.QueryProcesses.{without_value};
+    ghost use Rattle.conn_manager.specs.Manages.{HasServerCause};
+    ghost use Rattle.conn_drivers.specs.Establishing.{Establishes};
+    ghost use Rattle.conn_drivers.specs.Queried.{known_of, QueriesBetween};
+    ghost use Rattle.conn_drivers.specs.Raws.{shows};
+
+    /// A connection over this wire, which keeps no statement yet.
+    pub fn new(alloc: Global, wire: Wire<S>, handler: H) -> RawConnection<S, H>
         ensures wire { result.wire ≡ wire }
         ensures handler { result.handler ≡ handler }
+        ensures cache { known_of result.cache ≡ nothing_known }
     {
-        RawConnection { wire, handler }
+        RawConnection {
+            wire,
+            handler,
+            cache: StatementCache::new(alloc),
+        }
     }
 
     /// Opens a connection, as `Establish::establish` says.
@@ -44,11 +65,43 @@ impl<S: Server, H: Instrumentation + Drop> RawConnection<S, H> {
     {
         let mut handler = handler;
         let wire = open_telling(alloc, connector, dialect, database_url, &mut handler)?;
-        Ok(RawConnection::new(wire, handler))
+        Ok(RawConnection::new(alloc, wire, handler))
+    }
+
+    /// Takes the room that a query may need: for a prepare, a run, and a row that is refused.
+    fn reserve_for<Q: Query>(&mut self, source: &Q) -> QueryResult<()>
+        ensures reserved { let q = Q.view source.now in Reserves 3
+            (length q.sql + run_bytes q.sql q.binds)
+            (S.seen self.old.wire.server) (S.seen self.new.wire.server) result }
+        ensures err { IfErr result (λ e. e ≡ OutOfMemory) }
+        ensures status { self.new.wire.status ≡ self.old.wire.status }
+        ensures handler { self.new.handler ≡ self.old.handler }
+        ensures cache { self.new.cache ≡ self.old.cache }
+    {
+        match query_bytes(source) {
+            Some(bytes) => Ok(self.wire.server.reserve(3, bytes)?),
+            None => Err(Error::OutOfMemory),
+        }
+    }
+
+    /// What a query does between its two events.
+    fn query<Q: Query>(&mut self, source: &Q) -> QueryResult<usize>
+        ensures queries { QueriesBetween S.is_honest (Q.view source.now)
+            (shows S.seen H.told self.old) (shows S.seen H.told self.new) result }
+        ensures cause { HasServerCause (S.seen self.old.wire.server)
+            (S.seen self.new.wire.server) (without_value result) }
+    {
+        self.reserve_for(source)?;
+        match query_fault(self.wire.server.dialect(), source) {
+            Some(e) => Err(e),
+            None => self.wire.query(&mut self.cache, source, &mut self.handler),
+        }
     }
 }
 
 impl<S: Server, H: Instrumentation + Drop> SimpleConnection for RawConnection<S, H> {
+    ghost use Rattle.conn_drivers.specs.Raws.{shows};
+
     ghost is_honest = { S.is_honest };
 
     ghost view = { λ c. shows S.seen H.told c };
@@ -102,5 +155,22 @@ impl<S: Server, H: Instrumentation + Drop> Connection for RawConnection<S, H> {
 
     fn number(&self) -> u32 {
         self.wire.server.number()
+    }
+}
+
+impl<S: Server, H: Instrumentation + Drop> CachingConnection for RawConnection<S, H> {
+    fn execute_returning_count<Q: Query>(&mut self, source: &Q) -> QueryResult<usize> {
+        let query = StrQueryHelper::new(source.sql());
+        self.handler
+            .on_connection_event(InstrumentationEvent::StartQuery { query });
+        let reply = self.query(source);
+        let error = reply.as_ref().err();
+        self.handler
+            .on_connection_event(InstrumentationEvent::FinishQuery { query, error });
+        reply
+    }
+
+    fn set_prepared_statement_cache_size(&mut self, size: CacheSize) {
+        self.cache.set_cache_size(size, &mut self.wire);
     }
 }

@@ -2,14 +2,16 @@
 ghost use Rattle.std.specs.Prelude.{◌≡◌, ◌≤◌, ◌+◌, length, IsSome, None, []};
 ghost use Rattle.conn_result.specs.declared.error.Error.TheVariants.{DatabaseError};
 ghost use Rattle.conn_model.specs.Acts.{Acts};
-ghost use Rattle.conn_model.specs.Statements.{source_text, text_of};
+ghost use Rattle.conn_model.specs.Statements.{run_bytes, source_text, text_of};
 ghost use Rattle.conn_model.specs.declared.item.Call.TheVariants.{Exec, Prepare, Run};
 ghost use Rattle.conn_manager.specs.Manages.{done, bare_process, HasServerCause};
 ghost use Rattle.conn_manager.specs.Statuses.{no_depth, retold};
-ghost use Rattle.conn_drivers.specs.Wires.{reply_with, Hears, OpensIf};
+ghost use Rattle.conn_cache.specs.QueryProcesses.{affected_count, without_value};
+ghost use Rattle.conn_drivers.specs.Prepares.{count_by, count_heard};
+ghost use Rattle.conn_drivers.specs.Wires.{Hears, HearsBy, OpensIf};
 
 use conn_manager::{TransactionManagerStatus, reply_of, retold};
-use conn_model::{Refusal, RunSource, nul_fault};
+use conn_model::{Bind, Refusal, RunReply, RunSource, nul_fault};
 use conn_result::{Error, QueryResult};
 use conn_server::Server;
 
@@ -21,10 +23,29 @@ pub struct Wire<S> {
 }
 
 /// The error that hands a refusal on.
-fn error_of(refusal: Refusal) -> Error
+pub(crate) fn error_of(refusal: Refusal) -> Error
     ensures { result ≡ DatabaseError refusal.kind refusal.code }
 {
     Error::DatabaseError(refusal.kind, refusal.code)
+}
+
+fn affected_count(affected: u64) -> QueryResult<usize>
+    ensures { result ≡ affected_count affected }
+{
+    match usize::try_from(affected) {
+        Ok(count) => Ok(count),
+        Err(_) => Err(Error::IntegerConversion),
+    }
+}
+
+/// The affected rows of a run, or its refusal.
+fn count_by(ran: Result<RunReply, Refusal>) -> QueryResult<usize>
+    ensures { result ≡ count_by ran }
+{
+    match ran {
+        Ok(reply) => affected_count(reply.affected),
+        Err(refusal) => Err(error_of(refusal)),
+    }
 }
 
 impl<S: Server> Wire<S> {
@@ -40,7 +61,8 @@ impl<S: Server> Wire<S> {
     }
 
     /// Tracks what the server tells after a call that was refused or not.
-    fn follow(&mut self, refusal: Option<Refusal>)
+    #[inline(always)]
+    pub(crate) fn follow(&mut self, refusal: Option<Refusal>)
         ensures same { S.seen self.new.server ≡ S.seen self.old.server }
         ensures status { let seen = S.seen self.old.server in self.new.status
             ≡ retold seen.dialect refusal seen.told self.old.status }
@@ -57,6 +79,8 @@ impl<S: Server> Wire<S> {
         ensures hears { Hears S.is_honest Exec query.now (S.seen self.old.server)
             (S.seen self.new.server) self.old.status self.new.status result }
         ensures cause { HasServerCause (S.seen self.old.server) (S.seen self.new.server) result }
+        ensures open { (S.seen self.new.server).open_statements
+            ≡ (S.seen self.old.server).open_statements }
         ensures item_room { (S.seen self.old.server).item_room
             ≤ (S.seen self.new.server).item_room + 1 }
         ensures byte_room { (S.seen self.old.server).byte_room
@@ -75,6 +99,8 @@ impl<S: Server> Wire<S> {
             (bare_process (S.seen self.old.server).dialect query.now self.old.status)
             (S.seen self.old.server) (S.seen self.new.server) (done result self.new.status) }
         ensures cause { HasServerCause (S.seen self.old.server) (S.seen self.new.server) result }
+        ensures open { (S.seen self.new.server).open_statements
+            ≡ (S.seen self.old.server).open_statements }
         ensures item_room { (S.seen self.old.server).item_room
             ≤ (S.seen self.new.server).item_room + 1 }
         ensures byte_room { (S.seen self.old.server).byte_room
@@ -91,9 +117,9 @@ impl<S: Server> Wire<S> {
         requires items { 1 ≤ (S.seen self.old.server).item_room }
         requires bytes { length text.now ≤ (S.seen self.old.server).byte_room }
         ensures hears { Hears S.is_honest (Prepare None) text.now (S.seen self.old.server)
-            (S.seen self.new.server) self.old.status self.new.status (reply_with result) }
+            (S.seen self.new.server) self.old.status self.new.status (without_value result) }
         ensures cause { HasServerCause (S.seen self.old.server) (S.seen self.new.server)
-            (reply_with result) }
+            (without_value result) }
         ensures opens { OpensIf text.now (S.seen self.old.server).open_statements
             (S.seen self.new.server).open_statements result }
         ensures item_room { (S.seen self.old.server).item_room
@@ -134,5 +160,35 @@ impl<S: Server> Wire<S> {
         let refusal = self.server.run(source, &[]).err();
         self.follow(refusal);
         reply_of(refusal)
+    }
+
+    /// Runs a text, or an open statement, with these binds, and answers how many rows it affected.
+    pub(crate) fn run_with(&mut self, source: RunSource<'_>, binds: &[Bind]) -> QueryResult<usize>
+        requires opened { IsSome (source_text (S.seen self.old.server).open_statements source) }
+        requires items { 2 ≤ (S.seen self.old.server).item_room }
+        requires bytes { run_bytes (text_of (S.seen self.old.server).open_statements source)
+            binds.now ≤ (S.seen self.old.server).byte_room }
+        ensures hears { let old = S.seen self.old.server in
+            HearsBy count_heard S.is_honest (Run binds.now)
+            (text_of old.open_statements source.entry) old
+            (S.seen self.new.server) self.old.status self.new.status result }
+        ensures cause { HasServerCause (S.seen self.old.server) (S.seen self.new.server)
+            (without_value result) }
+        ensures open { (S.seen self.new.server).open_statements
+            ≡ (S.seen self.old.server).open_statements }
+    {
+        let ran = self.server.run(source, binds);
+        self.follow(ran.err());
+        count_by(ran)
+    }
+}
+
+#[cfg(test)]
+mod tests {
+    use super::*;
+
+    #[test]
+    fn each_count_of_rows_fits(rt: HostRuntime) {
+        assert_eq!(rt; affected_count(u64::MAX).ok(), Some(usize::MAX));
     }
 }

@@ -6,7 +6,7 @@ use Rattle.conn_model.specs.Process.{Process}
 use Rattle.conn_model.specs.declared.item.Dialect.{Dialect}
 use Rattle.conn_manager.specs.Manages.{Done, Reply, begin_process, commit_process, rollback_process}
 use Rattle.conn_manager.specs.Statuses.{Status}
-use Rattle.conn_manager.specs.Views.{View, TellsOrMemoryFrom}
+use Rattle.conn_manager.specs.Views.{View, TellsOrMemoryFrom, KeepsCache}
 
 -- the answer of a manager in error
 abbrev pub is_broken_error : Error → Bool
@@ -16,9 +16,9 @@ is_broken_error _ = false
 -- connections with their views, what the closure may answer on one and how it may leave it, and what stands for the manager's
 -- errors among the closure's
 module _ {C T E : Type 0} (honest : Bool) (view : C → View) (called : C → Result T E → C → Type 0) (from : Error → E → Type 0) where
-  -- a call of the manager; where it wants memory it does, tells and changes nothing
+  -- a call of the manager, which leaves the cache; where it wants memory it does, tells and changes nothing
   abbrev pub Calls : (Dialect → Status → Process Done) → C → C → Reply → Type 0
-  Calls process old new reply = TellsOrMemoryFrom honest process (view old) (view new) reply
+  Calls process old new reply = TellsOrMemoryFrom honest process (view old) (view new) reply × KeepsCache (view old) (view new)
 
   -- after the closure's error: that error, where the rollback was Ok or found the manager in error, and else the rollback's
   abbrev pub after_rollback : E → Reply → Result T E → Type 0

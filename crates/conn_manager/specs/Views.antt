@@ -1,6 +1,7 @@
 -- What a contract sees of a connection, and what a call does from one such view to the next.
-use Rattle.std.specs.Prelude.{Bool, [], ◌∷◌}
+use Rattle.std.specs.Prelude.{◌≡◌, Bool, [], ◌∷◌}
 use Rattle.conn_model.specs.Acts.{Tells}
+use Rattle.conn_model.specs.Caches.{Known}
 use Rattle.conn_model.specs.Events.{Event, Heeded, with_events}
 use Rattle.conn_model.specs.Process.{Process}
 use Rattle.conn_model.specs.Seen.{Seen}
@@ -8,15 +9,20 @@ use Rattle.conn_model.specs.declared.item.Dialect.{Dialect}
 use Rattle.conn_manager.specs.Manages.{Done, done, Reply, ActsOrMemory, TellsOrMemory}
 use Rattle.conn_manager.specs.Statuses.{Status}
 
--- what is seen of its server, the status that is tracked, and the events that its handler was told
+-- what is seen of its server, the status that is tracked, the events that its handler was told, and the statements that it keeps
 pub record View : Type 0 where
   pub seen : Seen
   pub status : Status
   pub heeded : Heeded
+  pub cache : Known
 
 -- its handler was told this too
 abbrev pub with_event : View → Event → View
 with_event v event = record v { heeded = with_events v.heeded (event ∷ []) }
+
+-- the statements are kept as they were
+abbrev pub KeepsCache : View → View → Type 0
+KeepsCache old new = new.cache ≡ old.cache
 
 -- a call, by the dialect and the status at entry
 module _ (honest : Bool) (process : Dialect → Status → Process Done) (old new : View) (reply : Reply) where

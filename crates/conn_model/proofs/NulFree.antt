@@ -1,8 +1,8 @@
 -- Texts in which no NUL stands, and the place of the NUL that stops one.
-use Rattle.std.proofs.Common.{◌≡◌, ℕ, zero, suc, ◌+◌, ◌^◌, ◌<◌, ◌&&◌, true, false, cond, nat_eq, List, [], ◌∷◌, ◌++◌, decimal, refl, Option, Some, None, arith}
+use Rattle.std.proofs.Common.{◌≡◌, sym, ℕ, zero, suc, ◌+◌, ◌^◌, ◌<◌, ◌&&◌, ◌||◌, true, false, cond, nat_eq, List, [], ◌∷◌, ◌++◌, decimal, refl, Option, Some, None, arith}
 use Rattle.std.proofs.lemmas.Bool.Decides.{nat_tests}
 use Rattle.std.proofs.lemmas.Fmt.{digits_decimal}
-use Rattle.std.specs.List.{position_from}
+use Rattle.std.specs.List.{position_from, list_any}
 use Rattle.std.specs.Char.{is_ascii_digit}
 use Rattle.std.specs.Str.{all_ascii_digits}
 use Rattle.conn_model.specs.Nuls.{nul_place, nul_fault, fault_at}
@@ -43,3 +43,15 @@ fault_first Sqlite (Some place) n e = e
 
 pub fault_place : (d : Dialect) (text : List ℕ) (n : ℕ) → nul_fault d text ≡ Some n → nul_place text ≡ Some n
 fault_place d text n e = fault_first d (nul_place text) n e
+
+none_from : (i : ℕ) (bs : List ℕ) → list_any (λ (b : ℕ). nat_eq b 0) bs ≡ false → position_from (λ (b : ℕ). nat_eq b 0) i bs ≡ None
+none_from i [] none = refl
+none_from i (b ∷ bs) none =
+    elim (nat_eq b 0) as (λ t. (t || list_any (λ (c : ℕ). nat_eq c 0) bs) ≡ false → cond t (Some i) (position_from (λ (c : ℕ). nat_eq c 0) (i + 1) bs) ≡ None) [
+      | true ↦ (λ e. absurd (cc))
+      | false ↦ (λ e. none_from (i + 1) bs e)
+    ] none
+
+-- a text in which no byte is NUL
+pub no_place : (text : List ℕ) → list_any (λ (b : ℕ). nat_eq b 0) text ≡ false → None ≡ nul_place text
+no_place text none = sym (none_from 0 text none)

@@ -13,6 +13,7 @@ use Rattle.conn_report.specs.declared.entry.Reply.{Reply}
 use Rattle.conn_script.specs.declared.command.Word.{Word}
 use Rattle.conn_script.specs.declared.request.Request.TheVariants.{Get}
 use Rattle.conn_drivers.specs.Establishing.{url_fault}
+use Rattle.conn_model.specs.Caches.{Known, nothing_known}
 use Rattle.conn_reading.specs.Answered.{ServerLogs, Progress, Taken, taken, with_left, reads_on, taken_on, seat_after, refusal_at, new_seat, taken_opened, taken_setup, reads_attempt, reads_opening, reads_get, reads}
 use Rattle.conn_reading.specs.Asking.{Outcome, outcome, process_of}
 use Rattle.conn_reading.specs.Reading.{Read, read, ReadsItems, BeginsAnew}
@@ -51,13 +52,13 @@ left_after logs more n items follows k = elim (cases_eq k n) [
 ]
 
 -- the connection after it, by what changed
-seat_is : (seat after : Seat) (mark : ℕ) → after.number ≡ seat.number → mark ≡ after.mark → record seat { status = after.status; mark = mark; state = after.state } ≡ after
+seat_is : (seat after : Seat) (mark : ℕ) → after.number ≡ seat.number → mark ≡ after.mark → record seat { status = after.status; mark = mark; state = after.state; cache = after.cache } ≡ after
 seat_is seat after mark numbered marked = ap (λ (n : ℕ). record after { number = n; mark = mark }) (sym numbered) ∙ ap (λ (m : ℕ). record after { mark = m }) marked
 
 -- a deed on a connection that is out, whose process reads these items
 pub reads_in_place : (p : Progress) (line : ℕ) (word : Word) (deed : Deed) (n : ℕ) (seat after : Seat) (items : List Item) (reply : Reply)
     → at_number n p.context.out ≡ Some seat
-    → ReadsItems p.dialect p.armed seat.state (process_of p.dialect deed seat.status) items (outcome reply after.status) after.state → BeginsAnew items
+    → ReadsItems p.dialect p.armed seat.state (process_of p.dialect p.queries seat.status seat.cache deed) items (outcome reply after.status after.cache) after.state → BeginsAnew items
     → after.number ≡ seat.number → after.mark ≡ seat.mark + length items
     → ReadsEntry (λ p logs. reads_on p logs line word deed n (at_number n p.context.out)) p (only seat.number items) (entry_on line word reply after)
     (record p { context = record p.context { out = slice_set p.context.out n (Some after) } })
@@ -66,12 +67,12 @@ reads_in_place p line word deed n seat after items reply place r anew numbered m
   whatever_follows = λ logs more follows more_anew.
       let m = seat.number in
       let here : logs m ≡ items ++ more m = follows m ∙ ap (λ (t : List Item). t ++ more m) (only_same m items) in
-      let end : Read Outcome = record { value = outcome reply after.status; state = after.state; left = more m } in
+      let end : Read Outcome = record { value = outcome reply after.status after.cache; state = after.state; left = more m } in
       let same : seat_after seat (length (logs m)) end ≡ after =
       seat_is seat after (seat.mark + (length (logs m) - length (more m))) numbered (omega (arith, marked, ap length here, length-append items (more m))) in (
         with_left logs m (more m),
         ap (reads_on p logs line word deed n) place
-            ∙ ap (λ (t : List Item). option_map (taken_on p logs line word n seat) (read p.dialect p.armed seat.state (process_of p.dialect deed seat.status) t)) here
+            ∙ ap (λ (t : List Item). option_map (taken_on p logs line word n seat) (read p.dialect p.armed seat.state (process_of p.dialect p.queries seat.status seat.cache deed) t)) here
             ∙ ap (option_map (taken_on p logs line word n seat)) (r.whatever_follows (more m) (more_anew m))
             ∙ ap (λ (s : Seat). Some (taken (entry_on line word reply s) (record p { context = record p.context { out = slice_set p.context.out n (Some s) } }) (with_left logs m (more m)))) same,
         left_after logs more m items follows,
@@ -80,9 +81,10 @@ reads_in_place p line word deed n seat after items reply place r anew numbered m
 
 -- ---- a connection that was just opened
 
--- the connection after its setup, by what was read
-new_is : (n mark : ℕ) (seat : Seat) → seat.number ≡ n → mark ≡ seat.mark → record seat { number = n; mark = mark } ≡ seat
-new_is n mark seat numbered marked = ap (λ (k : ℕ). record seat { number = k; mark = mark }) (sym numbered) ∙ ap (λ (m : ℕ). record seat { mark = m }) marked
+-- the connection after its setup, by what was read; its cache is a new one
+new_is : (n mark : ℕ) (seat : Seat) → seat.number ≡ n → mark ≡ seat.mark → nothing_known ≡ seat.cache → record seat { number = n; mark = mark; cache = nothing_known } ≡ seat
+new_is n mark seat numbered marked empty =
+    ap (λ (k : ℕ). record seat { number = k; mark = mark; cache = nothing_known }) (sym numbered) ∙ ap (λ (m : ℕ). record seat { mark = m; cache = nothing_known }) marked ∙ ap (λ (c : Known). record seat { cache = c }) empty
 
 -- what an opened server gives stands beside what is left of the logs
 opened_is : (p : Progress) (left : ServerLogs) (line : ℕ) (rest : List (Option Seat)) (seat : Seat) (reply : Answer)
@@ -94,16 +96,16 @@ opened_is p left line rest seat (Err e) = refl
 pub get_in_place : (p : Progress) (line : ℕ) (rest : List (Option Seat)) (seat : Seat) (items : List Item) (reply : Answer)
     → p.context.slots ≡ None ∷ rest → url_fault p.dialect p.url ≡ None → refusal_at p ≡ None
     → ReadsItems p.dialect p.armed (Idle []) (setup_process p.dialect no_depth) items (done reply seat.status) seat.state → BeginsAnew items
-    → seat.number ≡ p.context.opened → seat.mark ≡ length items
+    → seat.number ≡ p.context.opened → seat.mark ≡ length items → seat.cache ≡ nothing_known
     → let t = taken_opened p (λ k. []) line rest seat reply in ReadsEntry (λ p logs. reads p logs line Get) p (only p.context.opened items) t.entry t.progress
-get_in_place p line rest seat items reply slots faultless due r anew numbered marked = record {
+get_in_place p line rest seat items reply slots faultless due r anew numbered marked empty = record {
   anew = only_anew p.context.opened items anew;
   whatever_follows = λ logs more follows more_anew.
       let n = p.context.opened in
       let here : logs n ≡ items ++ more n = follows n ∙ ap (λ (t : List Item). t ++ more n) (only_same n items) in
       let end : Read Done = record { value = done reply seat.status; state = seat.state; left = more n } in
       let same : new_seat n (length (logs n) - length (more n)) end ≡ seat =
-      new_is n (length (logs n) - length (more n)) seat numbered (omega (arith, marked, ap length here, length-append items (more n))) in (
+      new_is n (length (logs n) - length (more n)) seat numbered (omega (arith, marked, ap length here, length-append items (more n))) (sym empty) in (
         with_left logs n (more n),
         ap (reads_get p logs line) slots
             ∙ ap (reads_opening p logs line rest) faultless

@@ -98,6 +98,17 @@ module _ {A : Type 0} (d : Dialect) (armed : List Armed) where
 
 -- ---- another value
 
+-- a process whose value is made of another's reads as that one
+pub reads_map : {A B : Type 0} (f : A → B) (d : Dialect) (s : State) (p : Process A) (items : List Item) (a : A) (end : State) → Reads d s p items a end → Reads d s (map_process f p) items (f a) end
+reads_map f d s (Stop x) [] a end h = (ap f h.0, h.1)
+reads_map f d s (Stop x) (i ∷ is) a end h = absurd h
+reads_map f d s (Tell event p) items a end h = reads_map f d s p items a end h
+reads_map f d s (Ask call text next) [] a end h = absurd h
+reads_map f d s (Ask call text next) (i ∷ is) a end h = (h.0, h.1, (h.2.0, h.2.1, (h.2.2.0, reads_map f d h.2.0 (next _) is a end h.2.2.1)))
+reads_map f d s (Look text next) [] a end h = (h.0, reads_map f d s (next _) [] a end h.1)
+reads_map f d s (Look text next) (i ∷ is) a end (inl h) = inl (h.0, reads_map f d s (next _) (i ∷ is) a end h.1)
+reads_map f d s (Look text next) (i ∷ is) a end (inr h) = inr (h.0, h.1, h.2, (h.3.0, h.3.1, reads_map f d h.3.0 (next _) is a end h.3.2))
+
 -- the value that a process has where another is made of it
 pub record IsMapped {A B : Type 0} (f : A → B) (d : Dialect) (s : State) (p : Process A) (items : List Item) (b : B) (end : State) : Type 0 where
   pub value : A

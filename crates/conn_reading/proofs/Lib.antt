@@ -24,6 +24,10 @@ pub mod EachSeat
 pub mod ByNumber
 pub mod PlainScripts
 pub mod Tracks
+pub mod Rising
+pub mod Queries
+pub mod Owned
+pub mod KeysKept
 pub mod Deeds
 pub mod SessionKept
 pub mod Opening
@@ -33,9 +37,11 @@ pub mod SessionOpens
 pub mod SessionNests
 pub mod SessionSlots
 pub mod SessionRuns
+pub mod SessionOnce
 pub mod SessionLaws
 pub mod Premises
 pub mod Examples
 pub mod SessionExamples
 pub mod SetupExamples
 pub mod LookExamples
+pub mod QueryExamples

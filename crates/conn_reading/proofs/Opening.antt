@@ -19,11 +19,13 @@ use Rattle.conn_manager.specs.Manages.{Done, Reply, ask, done}
 use Rattle.conn_manager.specs.Setups.{setup_texts, run_text, run_ready, execute_text, unless_refused, execute_texts, setup_process}
 use Rattle.conn_manager.specs.Statuses.{Status, no_depth, retold, reply_of}
 use Rattle.conn_reading.specs.Histories.{left_status, Setup, IsOperation}
+use Rattle.conn_reading.specs.Owning.{names_of}
 use Rattle.conn_reading.specs.Plainly.{Plainly}
 use Rattle.conn_reading.specs.Reading.{Reads}
 use Rattle.conn_reading.specs.Sessions.{Each}
 use Rattle.conn_reading.specs.Verdicts.{is_plain}
-use Rattle.conn_reading.proofs.Looks.{LooksWell}
+use Rattle.conn_reading.proofs.Looks.{AsksSo, LooksWell, reads_so, so_looks}
+use Rattle.conn_reading.proofs.Rising.{IsUnnamed, unnamed}
 
 -- ---- its texts
 
@@ -71,30 +73,40 @@ texts_plain d (text ∷ texts) S h = execute_plain d text S (λ r s1. unless_ref
 pub set_up_is : IsOperation Setup
 set_up_is d S = texts_plain d (setup_texts d) S (texts_other d)
 
--- ---- it looks at no rows
+-- ---- it looks at no rows, and gives no name
 
-run_looks : (b : Bool) (d : Dialect) (text : List ℕ) (S : Status) (next : Reply → Status → Process Done) → ((r : Reply) (s1 : Status) → LooksWell true (next r s1)) → LooksWell b (run_text d text S next)
-run_looks b d text S next h = λ g. h (reply_of g.refusal) (retold d g.refusal g.told S)
+abbrev Unnamed : Bool → Process Done → Type 0
+Unnamed b p = AsksSo (λ call text. IsUnnamed call) b p
 
-ready_looks : (d : Dialect) (text : List ℕ) (r : Option Refusal) (S : Status) (next : Reply → Status → Process Done) → ((r : Reply) (s1 : Status) → LooksWell true (next r s1)) → LooksWell true (run_ready d text r S next)
-ready_looks d text None S next h = run_looks true d text S next h
-ready_looks d text (Some r) S next h = h (reply_of (Some r)) S
+-- what follows a text
+abbrev GoesOnUnnamed : (Reply → Status → Process Done) → Type 0
+GoesOnUnnamed next = (r : Reply) (s1 : Status) → Unnamed true (next r s1)
 
-execute_looks : (b : Bool) (d : Dialect) (text : List ℕ) (S : Status) (next : Reply → Status → Process Done) → ((r : Reply) (s1 : Status) → LooksWell true (next r s1)) → LooksWell b (execute_text d text S next)
-execute_looks b Pg text S next h = run_looks b Pg text S next h
-execute_looks b Mysql text S next h = λ g. ready_looks Mysql text g.refusal (retold Mysql g.refusal g.told S) next h
-execute_looks b Sqlite text S next h = λ g. ready_looks Sqlite text g.refusal (retold Sqlite g.refusal g.told S) next h
+run_unnamed : (b : Bool) (d : Dialect) (text : List ℕ) (S : Status) (next : Reply → Status → Process Done) → GoesOnUnnamed next → Unnamed b (run_text d text S next)
+run_unnamed b d text S next h = (refl, λ g. h (reply_of g.refusal) (retold d g.refusal g.told S))
 
-unless_looks : (r : Reply) (S : Status) (p : Process Done) → LooksWell true p → LooksWell true (unless_refused r S p)
-unless_looks (Ok u) S p h = h
-unless_looks (Err e) S p h = tt
+ready_unnamed : (d : Dialect) (text : List ℕ) (r : Option Refusal) (S : Status) (next : Reply → Status → Process Done) → GoesOnUnnamed next → Unnamed true (run_ready d text r S next)
+ready_unnamed d text None S next h = run_unnamed true d text S next h
+ready_unnamed d text (Some r) S next h = h (reply_of (Some r)) S
 
-texts_look : (b : Bool) (d : Dialect) (texts : List (List ℕ)) (S : Status) → LooksWell b (execute_texts d texts S)
-texts_look b d [] S = tt
-texts_look b d (text ∷ texts) S = execute_looks b d text S (λ r s1. unless_refused r s1 (execute_texts d texts s1)) (λ r s1. unless_looks r s1 (execute_texts d texts s1) (texts_look true d texts s1))
+execute_unnamed : (b : Bool) (d : Dialect) (text : List ℕ) (S : Status) (next : Reply → Status → Process Done) → GoesOnUnnamed next → Unnamed b (execute_text d text S next)
+execute_unnamed b Pg text S next h = run_unnamed b Pg text S next h
+execute_unnamed b Mysql text S next h = (refl, λ g. ready_unnamed Mysql text g.refusal (retold Mysql g.refusal g.told S) next h)
+execute_unnamed b Sqlite text S next h = (refl, λ g. ready_unnamed Sqlite text g.refusal (retold Sqlite g.refusal g.told S) next h)
+
+unless_unnamed : (r : Reply) (S : Status) (p : Process Done) → Unnamed true p → Unnamed true (unless_refused r S p)
+unless_unnamed (Ok u) S p h = h
+unless_unnamed (Err e) S p h = tt
+
+texts_unnamed : (b : Bool) (d : Dialect) (texts : List (List ℕ)) (S : Status) → Unnamed b (execute_texts d texts S)
+texts_unnamed b d [] S = tt
+texts_unnamed b d (text ∷ texts) S = execute_unnamed b d text S (λ r s1. unless_refused r s1 (execute_texts d texts s1)) (λ r s1. unless_unnamed r s1 (execute_texts d texts s1) (texts_unnamed true d texts s1))
 
 pub setup_looks : (d : Dialect) (S : Status) → LooksWell false (setup_process d S)
-setup_looks d S = texts_look false d (setup_texts d) S
+setup_looks d S = so_looks (λ call text. IsUnnamed call) false (setup_process d S) (texts_unnamed false d (setup_texts d) S)
+
+pub setup_unnamed : (d : Dialect) (S : Status) (s : State) (items : List Item) (a : Done) (end : State) → Reads d s (setup_process d S) items a end → names_of items ≡ []
+setup_unnamed d S s items a end reads = unnamed items (reads_so (λ call text. IsUnnamed call) false d s (setup_process d S) items a end (texts_unnamed false d (setup_texts d) S) reads)
 
 -- ---- where it is accepted
 

@@ -8,12 +8,15 @@ use Rattle.std.proofs.lemmas.List.{take-append-drop}
 use Rattle.std.proofs.lemmas.Slice.Eq.{bytes_eq-Decides}
 use Rattle.conn_model.specs.Classes.{class, begins, is_begin, is_built, is_write, same_text, number_behind}
 use Rattle.conn_model.specs.Numbers.{number}
-use Rattle.conn_script.specs.Drafts.{Draft, empty_draft, command_added, with_command, with_refused, can_close, if_closable}
-use Rattle.conn_script.specs.Grammar.{connection_alone, block_named, act_from, act_of, with_words, with_text, next, lines_of, judged_last, or_bad, judged, script_of}
+use Rattle.conn_script.specs.Binds.{binds_named}
+use Rattle.conn_script.specs.Drafts.{Draft, empty_draft, command_added, with_command, query_added, with_query, with_refused, can_close, if_closable}
+use Rattle.conn_script.specs.Grammar.{connection_alone, size_named, block_named, act_from, act_of, with_words, with_text, next, lines_of, judged_last, or_bad, judged, script_of}
 use Rattle.conn_script.specs.Options.{◌>>=◌, guard}
-use Rattle.conn_script.specs.Fields.{session_dialect}
+use Rattle.conn_script.specs.Fields.{number_at, session_dialect, word_at}
 use Rattle.conn_script.specs.Plans.{refused_of}
+use Rattle.conn_script.specs.Queries.{declared_by, declared_of, id_at, is_query_text, safety_at}
 use Rattle.conn_script.specs.Requests.{request_of}
+use Rattle.conn_script.specs.Shapes.{shape_named}
 use Rattle.conn_script.specs.Spelling.{word_named}
 use Rattle.conn_script.specs.Words.{split_at, is_statement, begins_statement, has_mark}
 use Rattle.conn_script.specs.declared.command.Act.{Act}
@@ -22,8 +25,10 @@ use Rattle.conn_script.specs.declared.command.Command.{Command}
 use Rattle.conn_script.specs.declared.command.Script.{Script}
 use Rattle.conn_script.specs.declared.command.Word.{Word}
 use Rattle.conn_script.specs.declared.command.Word.TheVariants as words
-use Rattle.conn_reading.specs.Sessions.{AsksPlain, AllPlain}
+use Rattle.conn_script.specs.declared.query.Declared.{Declared}
+use Rattle.conn_reading.specs.Sessions.{AsksPlain, AllPlain, ScriptPlain}
 use Rattle.conn_reading.specs.Verdicts.{is_plain}
+use Rattle.conn_reading.proofs.EachSeat.{each-append}
 
 -- ---- a statement text
 
@@ -99,9 +104,9 @@ there_bind_if : {A B : Type 0} (P : A → Type 0) (Q : B → Type 0) (o : Option
 there_bind_if P Q None f g h = tt
 there_bind_if P Q (Some x) f g h = h x g
 
-there_map_if : {A B : Type 0} (P : A → Type 0) (Q : B → Type 0) (o : Option A) (f : A → B) → IfThere P o → ((x : A) → P x → Q (f x)) → IfThere Q (option_map f o)
-there_map_if P Q None f g h = tt
-there_map_if P Q (Some x) f g h = h x g
+there_nest : {A B C : Type 0} (Q : C → Type 0) (o : Option A) (f : A → Option B) (g : B → Option C) → ((x : A) → IfThere Q (f x >>= g)) → IfThere Q (o >>= f >>= g)
+there_nest Q None f g h = tt
+there_nest Q (Some x) f g h = h x
 
 there_map : {A B : Type 0} (Q : B → Type 0) (o : Option A) (f : A → B) → ((x : A) → Q (f x)) → IfThere Q (option_map f o)
 there_map Q None f h = tt
@@ -110,6 +115,10 @@ there_map Q (Some x) f h = h x
 there_guard : {A : Type 0} (P : A → Type 0) (b : Bool) (x : A) → (b ≡ true → P x) → IfThere P (guard b x)
 there_guard P true x h = h refl
 there_guard P false x h = tt
+
+there_guarded : {A B : Type 0} (Q : B → Type 0) (b : Bool) (x : A) (f : A → Option B) → (b ≡ true → IfThere Q (f x)) → IfThere Q (guard b x >>= f)
+there_guarded Q true x f h = h refl
+there_guarded Q false x f h = tt
 
 -- the text of an act, where it has one
 abbrev pub ActPlain : Act → Type 0
@@ -125,6 +134,11 @@ act_plain words.Begin rest = there_map ActPlain (connection_alone rest) acts.Beg
 act_plain words.Commit rest = there_map ActPlain (connection_alone rest) acts.Commit (λ n. tt)
 act_plain words.Rollback rest = there_map ActPlain (connection_alone rest) acts.Rollback (λ n. tt)
 act_plain words.TestBegin rest = there_map ActPlain (connection_alone rest) acts.TestBegin (λ n. tt)
+act_plain words.Exec rest =
+    there_bind ActPlain rest _ (λ text. there_bind ActPlain (number 4294967296 (split_at 32 text).0) _ (λ c. there_bind ActPlain (split_at 32 text).1 _ (λ query. there_bind ActPlain (number 4294967296 query) _ (λ q. tt))))
+act_plain words.CacheSize rest =
+    there_bind ActPlain rest _ (λ text. there_bind ActPlain (number 4294967296 (split_at 32 text).0) _ (λ c. there_bind ActPlain ((split_at 32 text).1 >>= size_named) _ (λ size. tt)))
+act_plain words.Ping rest = there_map ActPlain (connection_alone rest) acts.Ping (λ n. tt)
 act_plain words.Transaction rest =
     there_bind ActPlain rest _ (λ text. there_bind ActPlain (number 4294967296 (split_at 32 text).0) _ (λ c. there_bind ActPlain ((split_at 32 text).1 >>= block_named) _ (λ kind. tt)))
 act_plain words.End rest = there_map ActPlain (connection_alone rest) acts.End (λ n. tt)
@@ -134,51 +148,70 @@ plain-append : (xs ys : List Command) → AllPlain xs → AllPlain ys → AllPla
 plain-append [] ys h g = g
 plain-append (x ∷ xs) ys h g = (h.0, plain-append xs ys h.1 g)
 
+-- the text of a query is plain
+abbrev pub QueryPlain : Declared → Type 0
+QueryPlain q = is_plain (class q.text) ≡ true
+
+query_text_plain : (t : List ℕ) → is_query_text t ≡ true → is_plain (class t) ≡ true
+query_text_plain t h = by_size (nat_le (length t) 512) h
+  where
+    by_size : (b : Bool) → (b && is_statement t) ≡ true → is_plain (class t) ≡ true
+    by_size true g = statement_plain t g
+    by_size false g = absurd (cc)
+
+declared_plain : (rest : Option (List ℕ)) → IfThere QueryPlain (declared_of rest)
+declared_plain rest =
+    there_nest QueryPlain (number_at 0 65535 rest) _ declared_by (λ number. there_nest QueryPlain (safety_at number.1) _ declared_by (λ safety. there_nest QueryPlain (id_at safety.1) _ declared_by (λ id.
+    there_nest QueryPlain (word_at id.1) _ declared_by (λ binds. there_nest QueryPlain (word_at binds.1) _ declared_by (λ shape. there_nest QueryPlain shape.1 _ declared_by (λ text.
+    there_guarded QueryPlain (is_query_text text) _ declared_by (λ e. there_bind QueryPlain (binds_named binds.0) _ (λ b. there_bind QueryPlain (shape_named shape.0) _ (λ columns. query_text_plain text e)))))))))
+
 -- the draft's script sends plain texts
 abbrev pub DraftPlain : Draft → Type 0
-DraftPlain d = AllPlain d.script.commands
+DraftPlain d = ScriptPlain d.script
 
 words_plain : (n : ℕ) (d : Draft) (line : List ℕ × Option (List ℕ)) → DraftPlain d → IfThere DraftPlain (with_words n d line)
-words_plain n d line h = by_word (bytes_eq line.0 (codes "refuse"))
+words_plain n d line h = by_word (bytes_eq line.0 (codes "refuse")) (bytes_eq line.0 (codes "query"))
   where
-    by_word : (b : Bool) → IfThere DraftPlain (if b then (refused_of d.script.dialect line.1 >>= with_refused d) else (act_of line.0 line.1 >>= with_command n d))
-    by_word true = there_bind DraftPlain (refused_of d.script.dialect line.1) (with_refused d) (λ r. there_guard DraftPlain _ _ (λ e. h))
-    by_word false = there_bind_if ActPlain DraftPlain (act_of line.0 line.1) (with_command n d) (there_bind ActPlain (word_named line.0) (λ word. act_from word line.1) (λ word. act_plain word line.1))
-        (λ act g. there_guard DraftPlain _ (command_added n d act) (λ e. plain-append d.script.commands (record { line = n; act = act } ∷ []) h (g, tt)))
+    by_word : (b c : Bool) → IfThere DraftPlain (if b then (refused_of d.script.dialect line.1 >>= with_refused d) else if c then (declared_of line.1 >>= with_query d) else (act_of line.0 line.1 >>= with_command n d))
+    by_word true c = there_bind DraftPlain (refused_of d.script.dialect line.1) (with_refused d) (λ r. there_guard DraftPlain _ _ (λ e. h))
+    by_word false true = there_bind_if QueryPlain DraftPlain (declared_of line.1) (with_query d) (declared_plain line.1)
+        (λ q g. there_guard DraftPlain _ (query_added d q) (λ e. (h.0, each-append QueryPlain d.script.queries (q ∷ []) h.1 (g, tt))))
+    by_word false false = there_bind_if ActPlain DraftPlain (act_of line.0 line.1) (with_command n d) (there_bind ActPlain (word_named line.0) (λ word. act_from word line.1) (λ word. act_plain word line.1))
+        (λ act g. there_guard DraftPlain _ (command_added n d act) (λ e. (plain-append d.script.commands (record { line = n; act = act } ∷ []) h.0 (g, tt), h.1)))
 
 text_plain : (n : ℕ) (d : Draft) (line : List ℕ) → DraftPlain d → IfThere DraftPlain (with_text n d line)
 text_plain n d line h = there_bind_if DraftPlain DraftPlain (with_words n d (split_at 32 line)) if_closable (words_plain n d (split_at 32 line) h) (λ e g. there_guard DraftPlain (can_close e) e (λ c. g))
 
 next_plain : (n : ℕ) (o : Option Draft) (line : List ℕ) → IfThere DraftPlain o → IfThere DraftPlain (next n o line)
-next_plain n None line h = there_map DraftPlain (session_dialect line) empty_draft (λ d. tt)
+next_plain n None line h = there_map DraftPlain (session_dialect line) empty_draft (λ d. (tt, tt))
 next_plain n (Some d) line h =
     elim (is_utf8 line) as (λ b. IfThere DraftPlain (if b then with_text n d line else None)) [
       | true ↦ text_plain n d line h
       | false ↦ tt
     ]
 
-last_plain : (n : ℕ) (o : Option Draft) (last : List ℕ) (script : Script) → IfThere DraftPlain o → judged_last n o last ≡ Ok script → AllPlain script.commands
+last_plain : (n : ℕ) (o : Option Draft) (last : List ℕ) (script : Script) → IfThere DraftPlain o → judged_last n o last ≡ Ok script → ScriptPlain script
 last_plain n (Some d) [] script h is = by_blocks (d.blocks == 0) is
   where
-    by_blocks : (b : Bool) → (if b then Ok d.script else Err n) ≡ Ok script → AllPlain script.commands
-    by_blocks true e = let same : d.script ≡ script = cc in subst (λ (s : Script). AllPlain s.commands) same h
+    by_blocks : (b : Bool) → (if b then Ok d.script else Err n) ≡ Ok script → ScriptPlain script
+    by_blocks true e = let same : d.script ≡ script = cc in subst ScriptPlain same h
     by_blocks false e = absurd (cc)
 last_plain n (Some d) (b ∷ bs) script h is = absurd (cc)
 last_plain n None last script h is = absurd (cc)
 
-judged_plain : (n : ℕ) (o : Option Draft) (lines : List (List ℕ)) (script : Script) → IfThere DraftPlain o → judged n o lines ≡ Ok script → AllPlain script.commands
+judged_plain : (n : ℕ) (o : Option Draft) (lines : List (List ℕ)) (script : Script) → IfThere DraftPlain o → judged n o lines ≡ Ok script → ScriptPlain script
 judged_plain n o [] script h is = absurd (cc)
 judged_plain n o (last ∷ []) script h is = last_plain n o last script h is
 judged_plain n o (line ∷ more ∷ lines) script h is = go (next n o line) (next_plain n o line h) is (λ d g e. judged_plain (n + 1) (Some d) (more ∷ lines) script g e)
   where
-    go : (m : Option Draft) → IfThere DraftPlain m → or_bad n m (λ d. judged (n + 1) (Some d) (more ∷ lines)) ≡ Ok script → ((d : Draft) → DraftPlain d → judged (n + 1) (Some d) (more ∷ lines) ≡ Ok script → AllPlain script.commands) → AllPlain script.commands
+    go : (m : Option Draft) → IfThere DraftPlain m → or_bad n m (λ d. judged (n + 1) (Some d) (more ∷ lines)) ≡ Ok script → ((d : Draft) → DraftPlain d → judged (n + 1) (Some d) (more ∷ lines) ≡ Ok script → ScriptPlain script) → ScriptPlain script
     go None g e rest = absurd (cc)
     go (Some d) g e rest = rest d g e
 
 -- a valid script
-pub script_plain : (bytes : List ℕ) (script : Script) → script_of bytes ≡ Ok script → AllPlain script.commands
+pub script_plain : (bytes : List ℕ) (script : Script) → script_of bytes ≡ Ok script → ScriptPlain script
 script_plain bytes script is = by_size (nat_lt 16777216 (length bytes)) is
   where
-    by_size : (b : Bool) → (if b then Err 0 else judged 1 None (lines_of bytes)) ≡ Ok script → AllPlain script.commands
+    by_size : (b : Bool) → (if b then Err 0 else judged 1 None (lines_of bytes)) ≡ Ok script → ScriptPlain script
     by_size true e = absurd (cc)
     by_size false e = judged_plain 1 None (lines_of bytes) script tt e

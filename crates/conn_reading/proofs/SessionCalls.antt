@@ -1,6 +1,6 @@
 -- One call more in the history of one connection of a session; those of the others stay.
 use Rattle.std.proofs.Common.{◌≡◌, ◌≢◌, ℕ, ◌+◌, ◌<◌, true, if◌then◌else◌, List, [], ◌++◌, length, Option, Some, None, refl, sym, ap, subst, ◌∙◌, arith, inl, inr}
-use Rattle.std.specs.Prelude.{◌==◌, is_some}
+use Rattle.std.specs.Prelude.{◌==◌, ◌⊎◌, is_some}
 use Rattle.std.proofs.lemmas.Bool.{cases_eq}
 use Rattle.conn_model.specs.declared.item.Dialect.{Dialect}
 use Rattle.conn_model.specs.declared.item.Item.{Item}
@@ -8,15 +8,18 @@ use Rattle.conn_manager.specs.Manages.{Done}
 use Rattle.conn_manager.specs.Statuses.{Status}
 use Rattle.conn_report.specs.declared.entry.Reply.{Reply}
 use Rattle.conn_script.specs.declared.command.Word.{Word}
+use Rattle.conn_model.specs.Caches.{Register}
 use Rattle.conn_reading.specs.Answered.{ServerLogs, with_left}
 use Rattle.conn_reading.specs.Folds.{Stack, alone, fold_of, after_reply, kind_of, KeepsLive, AllKeepLive}
 use Rattle.conn_reading.specs.Histories.{Operation, IsOperation, operation_process, Step, step_items, StartsSetUp}
+use Rattle.conn_reading.specs.Owning.{names_of}
 use Rattle.conn_reading.specs.Reading.{Read, Reads}
 use Rattle.conn_reading.specs.Seats.{Seat, make_entry}
 use Rattle.conn_reading.specs.Sessions.{IsClean, mark_of, after_deed, after_mark, between, DeedLive, MarkLive}
 use Rattle.conn_reading.specs.declared.blocks.Block.{Block}
 use Rattle.conn_reading.specs.declared.deed.Deed.{Deed}
 use Rattle.conn_reading.proofs.SessionKept.{Tracks, SeatIs, SeatOf, EndsWith, IsAt, EntrySays}
+use Rattle.conn_reading.proofs.Rising.{RisesTo}
 use Rattle.conn_reading.proofs.Tracks.{Track, IsTrack, moved, moved_is, moved_count, folded, folded_at, fold-last, live-last, between_is}
 
 -- ---- one number of many
@@ -52,12 +55,14 @@ moves_each tracks n after P mark others this k = elim (cases_eq n k) [
 
 -- ---- one call more
 
--- a call that follows a history read the next of the items that are left
+-- a call that follows a history read the next of the items that are left, which leave this register
 pub record CallReads (d : Dialect) (left : List Item) (t : Track) (operation : Operation) (r : Read Done) : Type 0 where
   pub is : IsOperation operation
   pub used : List Item
   pub all : left ≡ used ++ r.left
   pub each : Reads d t.state (operation_process d t.status operation) used r.value r.state
+  pub register : Register
+  pub names : RisesTo t.register.counter (names_of used) register.counter
 
 -- an entry's deed and reply do to the fold what the call does
 pub record FoldsAs (deed : Option Deed) (reply : Reply) (operation : Operation) (a : Done) : Type 0 where
@@ -69,14 +74,14 @@ module _ (d : Dialect) (logs left : ServerLogs) (tracks : Tracks) (n : ℕ) (ope
   before = tracks n
 
   abbrev next : Track
-  next = moved before operation c.used r
+  next = moved before operation c.used r c.register
 
   -- the histories with the call
   abbrev pub with_call : Tracks
   with_call = with_track tracks n next
 
   next_is : IsTrack d (logs n) r.left next
-  next_is = moved_is d operation (logs n) (left n) before c.used r c.all c.each c.is (tracked n)
+  next_is = moved_is d operation (logs n) (left n) before c.used r c.register c.all c.each c.is c.names (tracked n)
 
   pub call_tracked : (k : ℕ) → IsTrack d (logs k) (with_left left n r.left k) (with_call k)
   call_tracked k = elim (cases_eq k n) [
@@ -88,16 +93,23 @@ module _ (d : Dialect) (logs left : ServerLogs) (tracks : Tracks) (n : ℕ) (ope
   pub call_apart : (k : ℕ) → k ≢ n → with_call k ≡ tracks k
   call_apart k apart = track_other tracks n k next apart
 
+  -- so are the registers of the others
+  pub call_registers : (P : Register → Register → Type 0) → P (tracks n).register c.register → (k : ℕ) → ((with_call k).register ≡ (tracks k).register) ⊎ ((n ≡ k) × P (tracks k).register (with_call k).register)
+  call_registers P p k = elim (cases_eq n k) [
+    | inl same ↦ inr (same, subst (λ (j : ℕ). P (tracks j).register (with_call j).register) same (subst (λ (t : Track). P (tracks n).register t.register) (sym (track_same tracks n next)) p))
+    | inr apart ↦ inl (ap (λ (t : Track). t.register) (call_apart k (λ e. apart (sym e))))
+  ]
+
   pub call_other : (seat : Seat) → seat.number ≢ n → SeatOf tracks seat → SeatOf with_call seat
   call_other seat apart h = subst (λ (t : Track). SeatIs t seat) (sym (call_apart seat.number apart)) h
 
   -- the connection is as the call leaves it
-  pub call_seat : (seat : Seat) → seat.number ≡ n → r.value.status ≡ seat.status → r.state ≡ seat.state → seat.mark ≡ length (step_items before.steps) + length c.used → StartsSetUp next.steps → SeatOf with_call seat
-  call_seat seat numbered status state count sets_up =
-      subst (λ (k : ℕ). SeatIs (with_call k) seat) (sym numbered) (subst (λ (x : Track). SeatIs x seat) (sym (track_same tracks n next)) (record { status = status; state = state; mark = moved_count before operation c.used r ∙ sym count; sets_up = sets_up }))
+  pub call_seat : (seat : Seat) → seat.number ≡ n → r.value.status ≡ seat.status → r.state ≡ seat.state → c.register ≡ seat.cache.register → seat.mark ≡ length (step_items before.steps) + length c.used → StartsSetUp next.steps → SeatOf with_call seat
+  call_seat seat numbered status state register count sets_up =
+      subst (λ (k : ℕ). SeatIs (with_call k) seat) (sym numbered) (subst (λ (x : Track). SeatIs x seat) (sym (track_same tracks n next)) (record { status = status; state = state; register = register; mark = moved_count before operation c.used r c.register ∙ sym count; sets_up = sets_up }))
 
   pub call_ends : (S : Status) (mark : ℕ) → r.value.status ≡ S → mark ≡ length (step_items before.steps) + length c.used → StartsSetUp next.steps → EndsWith d (logs n) S mark (with_call n)
-  call_ends S mark status count sets_up = subst (EndsWith d (logs n) S mark) (sym (track_same tracks n next)) (record { left = r.left; tracked = next_is; status = status; mark_is = moved_count before operation c.used r ∙ sym count; sets_up = sets_up })
+  call_ends S mark status count sets_up = subst (EndsWith d (logs n) S mark) (sym (track_same tracks n next)) (record { left = r.left; tracked = next_is; status = status; mark_is = moved_count before operation c.used r c.register ∙ sym count; sets_up = sets_up })
 
   all_read : logs n ≡ step_items before.steps ++ (c.used ++ r.left)
   all_read = (tracked n).all ∙ ap (λ (l : List Item). step_items before.steps ++ l) c.all
@@ -107,7 +119,7 @@ module _ (d : Dialect) (logs left : ServerLogs) (tracks : Tracks) (n : ℕ) (ope
   next_folds blocks deed reply mark f count =
       let step : Step = record { operation = operation; items = c.used; answer = r.value } in
       folded_at (folded blocks before) mark (length (step_items next.steps)) _ (fold_of next.steps (alone []))
-      (count ∙ sym (moved_count before operation c.used r))
+      (count ∙ sym (moved_count before operation c.used r c.register))
       (f.stack (between (logs n) (folded blocks before) mark) ∙ ap (λ (k : Stack). after_reply (kind_of operation) r.value.reply k) (between_is (logs n) c.used r.left blocks before mark all_read count) ∙ sym (fold-last before.steps step (alone [])))
 
   next_live : (blocks : List Block) (deed : Option Deed) (reply : Reply) (mark : ℕ) → FoldsAs deed reply operation r.value → mark ≡ length (step_items before.steps) + length c.used

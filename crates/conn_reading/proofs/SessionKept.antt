@@ -1,21 +1,25 @@
 -- The histories of all connections of a session, as far as their logs are read.
 use Rattle.std.proofs.Common.{◌≡◌, ℕ, ◌+◌, ◌<◌, ◌≤◌, Bool, true, false, if◌then◌else◌, List, [], length, Option, Some, None, refl, sym, ap, subst, ◌∙◌, arith}
-use Rattle.std.specs.Prelude.{◌==◌, is_some, ⊤}
+use Rattle.std.specs.Prelude.{◌==◌, ◌⊎◌, is_some, ⊤}
 use Rattle.conn_model.specs.declared.item.Dialect.{Dialect}
 use Rattle.conn_model.specs.declared.item.Item.{Item}
 use Rattle.conn_manager.specs.Statuses.{Status, is_broken}
+use Rattle.conn_model.specs.Caches.{Register}
+use Rattle.conn_cache.specs.declared.key.StatementCacheKey.{StatementCacheKey}
 use Rattle.conn_report.specs.declared.entry.Entry.{Entry}
 use Rattle.conn_report.specs.declared.entry.Reply.{Reply}
 use Rattle.conn_script.specs.declared.command.Word.{Word}
 use Rattle.conn_reading.specs.Answered.{ServerLogs, Progress, Taken}
 use Rattle.conn_reading.specs.Folds.{alone, AllKeepLive}
 use Rattle.conn_reading.specs.Histories.{step_items, StartsSetUp}
+use Rattle.conn_reading.specs.Prepared.{LeavesUnbounded}
 use Rattle.conn_reading.specs.Seats.{Seat, at_number}
-use Rattle.conn_reading.specs.Sessions.{Each, IsClean, Folded, mark_of, after_mark, MarkLive}
+use Rattle.conn_reading.specs.Sessions.{Each, QueriesPlain, IsClean, Folded, mark_of, after_mark, MarkLive}
 use Rattle.conn_reading.specs.declared.blocks.Block.{Block}
 use Rattle.conn_reading.specs.declared.deed.Deed.{Deed}
 use Rattle.conn_reading.proofs.EachSeat.{held, count}
 use Rattle.conn_reading.proofs.ByNumber.{one_there}
+use Rattle.conn_reading.proofs.KeysKept.{HoldsKey}
 use Rattle.conn_reading.proofs.Tracks.{Track, IsTrack, no_track, folded, folded_at, between_none}
 
 -- for each connection, by its number, its history
@@ -26,6 +30,7 @@ Tracks = ℕ → Track
 pub record SeatIs (t : Track) (seat : Seat) : Type 0 where
   pub status : t.status ≡ seat.status
   pub state : t.state ≡ seat.state
+  pub register : t.register ≡ seat.cache.register
   pub mark : length (step_items t.steps) ≡ seat.mark
   pub sets_up : StartsSetUp t.steps
 
@@ -77,13 +82,27 @@ pub record EntrySays (d : Dialect) (logs : ServerLogs) (before after : Tracks) (
   pub live : (n : ℕ) → MarkLive (logs n) deed e.reply (folded blocks (before n)) (mark_of n e.connection e.mark) → AllKeepLive (before n).steps (alone []) → AllKeepLive (after n).steps (alone [])
   pub opened_before : (n : ℕ) → is_some (mark_of n e.connection e.mark) ≡ true → n < opened
 
+-- the reading is one of servers of this dialect, and of queries with plain texts
+abbrev pub IsOf : Dialect → Progress → Type 0
+IsOf d p = (p.dialect ≡ d) × QueriesPlain p.queries
+
+-- a deed keeps the keys of a register, unless it gives another size
+abbrev pub DeedKeepsKeys : Option Deed → Register → Register → Type 0
+DeedKeepsKeys None r r' = ⊥
+DeedKeepsKeys (Some deed) r r' = (key : StatementCacheKey) → LeavesUnbounded deed → HoldsKey key r → HoldsKey key r'
+
+-- the register of connection n stays, or the entry shows a deed on n that keeps its keys
+abbrev pub KeepsKeys : Entry → Option Deed → ℕ → Register → Register → Type 0
+KeepsKeys e deed n r r' = (r' ≡ r) ⊎ ((e.connection ≡ Some n) × (is_some e.status ≡ true) × DeedKeepsKeys deed r r')
+
 -- after a command with this deed, which found some blocks open and leaves others
 pub record TakenKeeps (d : Dialect) (logs : ServerLogs) (before : Tracks) (opened : ℕ) (deed : Option Deed) (blocks left : List Block) (t : Taken) : Type 0 where
   pub tracks : Tracks
   pub progress : ProgressKeeps d logs t.left tracks t.progress
-  pub dialect : t.progress.dialect ≡ d
+  pub is_of : IsOf d t.progress
   pub grows : opened ≤ t.progress.context.opened
   pub open_blocks : t.progress.context.blocks ≡ left
+  pub registers : (n : ℕ) → KeepsKeys t.entry deed n (before n).register (tracks n).register
   pub entry : EntrySays d logs before tracks t.progress.context.opened blocks deed t.entry
 
 -- an entry of one number alone

@@ -12,17 +12,20 @@ use Rattle.conn_manager.specs.Statuses.{no_depth, is_broken}
 use Rattle.conn_report.specs.declared.entry.Reply.{Reply}
 use Rattle.conn_report.specs.declared.entry.Reply.TheVariants as replies
 use Rattle.conn_script.specs.declared.command.Word.TheVariants as words
+use Rattle.conn_model.specs.Caches.{nothing_known}
 use Rattle.conn_reading.specs.Answered.{ServerLogs, Progress, Taken, with_left, new_seat, attempt_refused, taken_opened, taken_setup, url_refused, refusal_at, reads_attempt, reads_opening}
 use Rattle.conn_reading.specs.Folds.{Stack, Sends, after_reply}
 use Rattle.conn_reading.specs.Histories.{Setup, operation_process, Step, step_items, StartsSetUp}
+use Rattle.conn_reading.specs.Owning.{names_of}
 use Rattle.conn_reading.specs.Reading.{Read, read, Reads}
 use Rattle.conn_reading.specs.Seats.{Seat, at_number}
 use Rattle.conn_reading.proofs.ByNumber.{one_there, at-last, at-last_other}
 use Rattle.conn_reading.proofs.EachSeat.{held, count, held-append, each_other}
 use Rattle.conn_reading.proofs.ItemsRead.{ReadsFront, reads_front}
-use Rattle.conn_reading.proofs.Opening.{set_up_is, accepted_setup}
-use Rattle.conn_reading.proofs.SessionCalls.{CallReads, FoldsAs, with_call, call_tracked, call_apart, call_other, call_seat, call_ends, call_says}
-use Rattle.conn_reading.proofs.SessionKept.{Tracks, SeatOf, IsAtNumber, Keeps, TakenKeeps, says_nothing}
+use Rattle.conn_reading.proofs.Opening.{set_up_is, accepted_setup, setup_unnamed}
+use Rattle.conn_reading.proofs.Rising.{RisesTo}
+use Rattle.conn_reading.proofs.SessionCalls.{CallReads, FoldsAs, with_call, call_tracked, call_apart, call_registers, call_other, call_seat, call_ends, call_says}
+use Rattle.conn_reading.proofs.SessionKept.{IsOf, Tracks, SeatOf, IsAtNumber, Keeps, TakenKeeps, says_nothing}
 use Rattle.conn_reading.proofs.Tracks.{Track, no_track}
 
 -- a slot that goes to the back empty holds no connection
@@ -43,7 +46,7 @@ one_most (Some seat) = omega arith
 
 -- ---- a server was opened, and its setup was read
 
-module _ (d : Dialect) (logs left : ServerLogs) (tracks : Tracks) (p : Progress) (line : ℕ) (rest : List (Option Seat)) (dialect : p.dialect ≡ d) (h : Keeps d logs left tracks (held rest) p.context.out p.context.opened) (r : Read Done)
+module _ (d : Dialect) (logs left : ServerLogs) (tracks : Tracks) (p : Progress) (line : ℕ) (rest : List (Option Seat)) (is_of : IsOf d p) (h : Keeps d logs left tracks (held rest) p.context.out p.context.opened) (r : Read Done)
     (front : ReadsFront d (Idle []) (setup_process d no_depth) (left p.context.opened) r) where
   -- the number of the new server
   abbrev n : ℕ
@@ -58,8 +61,19 @@ module _ (d : Dialect) (logs left : ServerLogs) (tracks : Tracks) (p : Progress)
   first : tracks n ≡ no_track
   first = h.unopened n (omega arith)
 
+  -- a setup gives no name
+  unnamed : names_of front.used ≡ []
+  unnamed = setup_unnamed d no_depth (Idle []) front.used r.value r.state front.each
+
   abbrev call : CallReads d (left n) (tracks n) Setup r
-  call = record { is = set_up_is; used = front.used; all = front.all; each = subst (λ (t : Track). Reads d t.state (operation_process d t.status Setup) front.used r.value r.state) (sym first) front.each }
+  call = record {
+    is = set_up_is;
+    used = front.used;
+    all = front.all;
+    each = subst (λ (t : Track). Reads d t.state (operation_process d t.status Setup) front.used r.value r.state) (sym first) front.each;
+    register = nothing_known.register;
+    names = subst (λ (t : Track). RisesTo t.register.counter (names_of front.used) 0) (sym first) (subst (λ (ns : List ℕ). RisesTo 0 ns 0) (sym unnamed) (omega arith));
+  }
 
   abbrev after : Tracks
   after = with_call d logs left tracks n Setup r h.tracked call
@@ -74,7 +88,7 @@ module _ (d : Dialect) (logs left : ServerLogs) (tracks : Tracks) (p : Progress)
   sets_up ok = subst (λ (t : Track). StartsSetUp (t.steps ++ setup ∷ [])) (sym first) (refl, ok)
 
   seat_is : r.value.reply ≡ Ok tt → SeatOf after seat
-  seat_is ok = call_seat d logs left tracks n Setup r h.tracked call seat refl refl refl count_read (sets_up ok)
+  seat_is ok = call_seat d logs left tracks n Setup r h.tracked call seat refl refl refl refl count_read (sets_up ok)
 
   other : (x : Seat) → x.number ≢ n → SeatOf tracks x → SeatOf after x
   other x apart g = call_other d logs left tracks n Setup r h.tracked call x apart g
@@ -111,14 +125,22 @@ module _ (d : Dialect) (logs left : ServerLogs) (tracks : Tracks) (p : Progress)
       none = λ k l. h.none k (omega (arith, l));
     }
 
+  -- no register changes, as the cache is a new one
+  still : (k : ℕ) → (after k).register ≡ (tracks k).register
+  still k = elim (call_registers d logs left tracks n Setup r h.tracked call (λ x y. y ≡ x) (sym (ap (λ (t : Track). t.register) first)) k) [
+    | inl stays ↦ stays
+    | inr moves ↦ moves.1
+  ]
+
   -- by the answer of the setup
   opened_took : (a : Answer) → r.value.reply ≡ a → TakenKeeps d logs tracks n None p.context.blocks p.context.blocks (taken_opened p (with_left left n r.left) line rest seat a)
   opened_took (Ok u) ok = record {
     tracks = after;
     progress = opened_keeps (Some seat) (λ x e. (let same : seat ≡ x = cc in subst (λ (y : Seat). IsAtNumber after n y) same (refl, seat_is ok)));
-    dialect = dialect;
+    is_of = is_of;
     grows = omega arith;
     open_blocks = refl;
+    registers = λ k. inl (still k);
     entry = call_says d logs left tracks n Setup r h.tracked call (n + 1) p.context.blocks None line words.Get replies.Ok (Some seat.status) seat.mark (omega arith)
         (call_ends d logs left tracks n Setup r h.tracked call seat.status seat.mark refl count_read (sets_up ok))
         (ap is_broken (accepted_setup d front.used r.value r.state front.each ok).0) (set_up_folds replies.Ok r.value) count_read;
@@ -126,28 +148,30 @@ module _ (d : Dialect) (logs left : ServerLogs) (tracks : Tracks) (p : Progress)
   opened_took (Err e) refused = record {
     tracks = after;
     progress = subst (λ (seats : List Seat). Keeps d logs (with_left left n r.left) after seats (out ++ None ∷ []) (n + 1)) (held-empty rest) (opened_keeps None (λ x e. absurd (cc)));
-    dialect = dialect;
+    is_of = is_of;
     grows = omega arith;
     open_blocks = refl;
+    registers = λ k. inl (still k);
     entry = call_says d logs left tracks n Setup r h.tracked call (n + 1) p.context.blocks None line words.Get (replies.Pool (CouldntSetupConfiguration e n)) None seat.mark (omega arith) tt tt
         (set_up_folds (replies.Pool (CouldntSetupConfiguration e n)) r.value) count_read;
   }
 
 -- ---- an attempt
 
-attempt_keeps : (d : Dialect) (logs left : ServerLogs) (tracks : Tracks) (p : Progress) (line : ℕ) (rest : List (Option Seat)) (o : Option ℤ) (t : Taken) → p.dialect ≡ d → Keeps d logs left tracks (held rest) p.context.out p.context.opened
+attempt_keeps : (d : Dialect) (logs left : ServerLogs) (tracks : Tracks) (p : Progress) (line : ℕ) (rest : List (Option Seat)) (o : Option ℤ) (t : Taken) → IsOf d p → Keeps d logs left tracks (held rest) p.context.out p.context.opened
     → reads_attempt p left line rest o ≡ Some t → TakenKeeps d logs tracks p.context.opened None p.context.blocks p.context.blocks t
-attempt_keeps d logs left tracks p line rest (Some code) t dialect h is =
+attempt_keeps d logs left tracks p line rest (Some code) t is_of h is =
     let same : attempt_refused p left line rest code ≡ t = cc in
     subst (TakenKeeps d logs tracks p.context.opened None p.context.blocks p.context.blocks) same (record {
       tracks = tracks;
       progress = subst (λ (seats : List Seat). Keeps d logs left tracks seats p.context.out p.context.opened) (held-empty rest) h;
-      dialect = dialect;
+      is_of = is_of;
       grows = omega arith;
       open_blocks = refl;
+      registers = λ k. inl refl;
       entry = says_nothing d logs tracks p.context.opened p.context.blocks None line words.Get None (replies.Pool (BadConnection code)) tt;
     })
-attempt_keeps d logs left tracks p line rest None t dialect h is = by_read (read p.dialect p.armed (Idle []) (setup_process p.dialect no_depth) (left p.context.opened)) refl is
+attempt_keeps d logs left tracks p line rest None t is_of h is = by_read (read p.dialect p.armed (Idle []) (setup_process p.dialect no_depth) (left p.context.opened)) refl is
   where
     by_read : (o : Option (Read Done)) → read p.dialect p.armed (Idle []) (setup_process p.dialect no_depth) (left p.context.opened) ≡ o → option_map (taken_setup p left line rest p.context.opened) o ≡ Some t
         → TakenKeeps d logs tracks p.context.opened None p.context.blocks p.context.blocks t
@@ -155,20 +179,21 @@ attempt_keeps d logs left tracks p line rest None t dialect h is = by_read (read
     by_read (Some r) e i =
         let same : taken_setup p left line rest p.context.opened r ≡ t = cc in
         let front : ReadsFront d (Idle []) (setup_process d no_depth) (left p.context.opened) r =
-        subst (λ (x : Dialect). ReadsFront x (Idle []) (setup_process x no_depth) (left p.context.opened) r) dialect (reads_front p.dialect p.armed (Idle []) (setup_process p.dialect no_depth) (left p.context.opened) r e) in
-        subst (TakenKeeps d logs tracks p.context.opened None p.context.blocks p.context.blocks) same (opened_took d logs left tracks p line rest dialect h r front r.value.reply refl)
+        subst (λ (x : Dialect). ReadsFront x (Idle []) (setup_process x no_depth) (left p.context.opened) r) is_of.0 (reads_front p.dialect p.armed (Idle []) (setup_process p.dialect no_depth) (left p.context.opened) r e) in
+        subst (TakenKeeps d logs tracks p.context.opened None p.context.blocks p.context.blocks) same (opened_took d logs left tracks p line rest is_of h r front r.value.reply refl)
 
 -- an attempt, or a URL that is at fault
-pub opening_keeps : (d : Dialect) (logs left : ServerLogs) (tracks : Tracks) (p : Progress) (line : ℕ) (rest : List (Option Seat)) (o : Option ConnectionError) (t : Taken) → p.dialect ≡ d → Keeps d logs left tracks (held rest) p.context.out p.context.opened
+pub opening_keeps : (d : Dialect) (logs left : ServerLogs) (tracks : Tracks) (p : Progress) (line : ℕ) (rest : List (Option Seat)) (o : Option ConnectionError) (t : Taken) → IsOf d p → Keeps d logs left tracks (held rest) p.context.out p.context.opened
     → reads_opening p left line rest o ≡ Some t → TakenKeeps d logs tracks p.context.opened None p.context.blocks p.context.blocks t
-opening_keeps d logs left tracks p line rest None t dialect h is = attempt_keeps d logs left tracks p line rest (refusal_at p) t dialect h is
-opening_keeps d logs left tracks p line rest (Some fault) t dialect h is =
+opening_keeps d logs left tracks p line rest None t is_of h is = attempt_keeps d logs left tracks p line rest (refusal_at p) t is_of h is
+opening_keeps d logs left tracks p line rest (Some fault) t is_of h is =
     let same : url_refused p left line rest fault ≡ t = cc in
     subst (TakenKeeps d logs tracks p.context.opened None p.context.blocks p.context.blocks) same (record {
       tracks = tracks;
       progress = subst (λ (seats : List Seat). Keeps d logs left tracks seats p.context.out p.context.opened) (held-empty rest) h;
-      dialect = dialect;
+      is_of = is_of;
       grows = omega arith;
       open_blocks = refl;
+      registers = λ k. inl refl;
       entry = says_nothing d logs tracks p.context.opened p.context.blocks None line words.Get None (replies.Pool fault) tt;
     })

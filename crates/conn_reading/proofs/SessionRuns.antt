@@ -18,25 +18,25 @@ use Rattle.conn_reading.specs.Answered.{ServerLogs, Progress, Taken, Run, taken_
 use Rattle.conn_reading.specs.Blocks.{request_deed, request_blocks}
 use Rattle.conn_reading.specs.Folds.{alone, AllKeepLive, refuses_transaction, SetsInOpen}
 use Rattle.conn_reading.specs.Seats.{at_number}
-use Rattle.conn_reading.specs.Sessions.{AsksPlain, AllPlain, EachRecorded, EachClean, Folded, mark_of, is_opened, after_entry, fold_entries, EntriesLive, MarkNested, EachNested}
+use Rattle.conn_reading.specs.Sessions.{AsksPlain, AllPlain, ScriptPlain, EachRecorded, EachClean, Folded, mark_of, is_opened, after_entry, fold_entries, EntriesLive, MarkNested, EachNested}
 use Rattle.conn_reading.specs.declared.blocks.Block.{Block}
 use Rattle.conn_reading.proofs.SessionNests.{at_recorded, at_nested}
-use Rattle.conn_reading.proofs.SessionKept.{Tracks, ProgressKeeps, TakenKeeps}
+use Rattle.conn_reading.proofs.SessionKept.{IsOf, Tracks, ProgressKeeps, TakenKeeps}
 use Rattle.conn_reading.proofs.SessionMoves.{verb_keeps}
 use Rattle.conn_reading.proofs.SessionSlots.{get_keeps, put_keeps}
 use Rattle.conn_reading.proofs.Tracks.{IsTrack, no_track, is_no_track, folded}
 
 -- after a command
-abbrev CommandKeeps : Dialect → ServerLogs → Tracks → Progress → Request → Taken → Type 0
+abbrev pub CommandKeeps : Dialect → ServerLogs → Tracks → Progress → Request → Taken → Type 0
 CommandKeeps d logs tracks p request t = TakenKeeps d logs tracks p.context.opened (request_deed p.context.blocks request) p.context.blocks (request_blocks request t.entry.reply p.context.blocks) t
 
 -- one command
-reads_keeps : (d : Dialect) (logs left : ServerLogs) (tracks : Tracks) (p : Progress) (line : ℕ) (request : Request) (t : Taken) → AsksPlain request → p.dialect ≡ d → ProgressKeeps d logs left tracks p → reads p left line request ≡ Some t
+pub reads_keeps : (d : Dialect) (logs left : ServerLogs) (tracks : Tracks) (p : Progress) (line : ℕ) (request : Request) (t : Taken) → AsksPlain request → IsOf d p → ProgressKeeps d logs left tracks p → reads p left line request ≡ Some t
     → CommandKeeps d logs tracks p request t
-reads_keeps d logs left tracks p line Get t plain dialect h is = get_keeps d logs left tracks p line t dialect h is
-reads_keeps d logs left tracks p line (Put n) t plain dialect h is =
-    let e : taken_put p left line n (at_number n p.context.out) ≡ t = cc in subst (CommandKeeps d logs tracks p (Put n)) e (put_keeps d logs left tracks p line n (at_number n p.context.out) refl dialect h)
-reads_keeps d logs left tracks p line (On n verb) t plain dialect h is = verb_keeps d logs left tracks p line n verb t plain dialect h is
+reads_keeps d logs left tracks p line Get t plain is_of h is = get_keeps d logs left tracks p line t is_of h is
+reads_keeps d logs left tracks p line (Put n) t plain is_of h is =
+    let e : taken_put p left line n (at_number n p.context.out) ≡ t = cc in subst (CommandKeeps d logs tracks p (Put n)) e (put_keeps d logs left tracks p line n (at_number n p.context.out) refl is_of h)
+reads_keeps d logs left tracks p line (On n verb) t plain is_of h is = verb_keeps d logs left tracks p line n verb t plain is_of h is
 
 -- what the entries of commands say, between the histories before them and after them, and the blocks that are open then
 pub record EntriesSay (d : Dialect) (logs : ServerLogs) (before after : Tracks) (blocks left : List Block) (opened : ℕ) (commands : List Command) (entries : List Entry) : Type 0 where
@@ -85,9 +85,9 @@ first_keeps d logs before p c cs t rest first more = record {
     by_entry n true e is = omega (arith, first.entry.opened_before n e, more.grows)
     by_entry n false e is = more.entries.opened_before n is
 
-run_keeps : (d : Dialect) (logs left : ServerLogs) (tracks : Tracks) (p : Progress) (commands : List Command) (run : Run) → AllPlain commands → p.dialect ≡ d → ProgressKeeps d logs left tracks p → reads_all p left commands ≡ Some run
+run_keeps : (d : Dialect) (logs left : ServerLogs) (tracks : Tracks) (p : Progress) (commands : List Command) (run : Run) → AllPlain commands → IsOf d p → ProgressKeeps d logs left tracks p → reads_all p left commands ≡ Some run
     → RunKeeps d logs tracks p.context.blocks p.context.opened commands run
-run_keeps d logs left tracks p [] run plain dialect h is =
+run_keeps d logs left tracks p [] run plain is_of h is =
     let first : Run = record { entries = []; progress = p; left = left } in
     let e : first ≡ run = cc in
     subst (RunKeeps d logs tracks p.context.blocks p.context.opened []) e (record {
@@ -96,10 +96,10 @@ run_keeps d logs left tracks p [] run plain dialect h is =
       grows = omega arith;
       entries = record { recorded = tt; clean = tt; folds = λ n. refl; live = λ n l g. g; nested = λ n none opens l g. tt; opened_before = λ n o. absurd (cc) };
     })
-run_keeps d logs left tracks p (c ∷ cs) run plain dialect h is =
+run_keeps d logs left tracks p (c ∷ cs) run plain is_of h is =
     option_and_then_some (λ (t : Taken). option_map (with_entry t.entry) (reads_all t.progress t.left cs)) (reads p left c.line (request_of c.act)) run is (λ t one more.
-    (let first = reads_keeps d logs left tracks p c.line (request_of c.act) t plain.0 dialect h one in
-    by_rest t first (reads_all t.progress t.left cs) more (λ rest e. run_keeps d logs t.left first.tracks t.progress cs rest plain.1 first.dialect first.progress e) refl))
+    (let first = reads_keeps d logs left tracks p c.line (request_of c.act) t plain.0 is_of h one in
+    by_rest t first (reads_all t.progress t.left cs) more (λ rest e. run_keeps d logs t.left first.tracks t.progress cs rest plain.1 first.is_of first.progress e) refl))
   where
     by_rest : (t : Taken) → (first : CommandKeeps d logs tracks p (request_of c.act) t) → (o : Option Run) → option_map (with_entry t.entry) o ≡ Some run
         → ((rest : Run) → reads_all t.progress t.left cs ≡ Some rest → RunKeeps d logs first.tracks t.progress.context.blocks t.progress.context.opened cs rest) → reads_all t.progress t.left cs ≡ o
@@ -115,7 +115,7 @@ run_keeps d logs left tracks p (c ∷ cs) run plain dialect h is =
 abbrev pub no_tracks : Tracks
 no_tracks n = no_track
 
-started_keeps : (script : Script) (logs : ServerLogs) → ProgressKeeps script.dialect logs logs no_tracks (started script)
+pub started_keeps : (script : Script) (logs : ServerLogs) → ProgressKeeps script.dialect logs logs no_tracks (started script)
 started_keeps script logs = record { tracked = λ n. is_no_track script.dialect (logs n); unopened = λ n l. refl; in_slots = tt; free = tt; places = refl; in_out = λ n seat e. absurd (cc); once = λ n. omega arith; none = λ n l. refl }
 
 none_empty : (l : List Item) → nat_eq (length l) 0 ≡ true → l ≡ []
@@ -143,10 +143,10 @@ pub record SessionSays (d : Dialect) (logs : ServerLogs) (commands : List Comman
   pub entries_say : EntriesSay d logs no_tracks tracks [] blocks opened commands entries
   pub ended : (n : ℕ) → n < opened → IsTrack d (logs n) [] (tracks n)
 
-pub answered_says : (script : Script) (logs : ServerLogs) (entries : List Entry) → AllPlain script.commands → answered script logs ≡ Some entries → SessionSays script.dialect logs script.commands entries
+pub answered_says : (script : Script) (logs : ServerLogs) (entries : List Entry) → ScriptPlain script → answered script logs ≡ Some entries → SessionSays script.dialect logs script.commands entries
 answered_says script logs entries plain is =
     option_and_then_some whole (reads_all (started script) logs script.commands) entries is (λ run all some.
-    by_test (all_read run.progress.context.opened run.left) run refl some (run_keeps script.dialect logs logs no_tracks (started script) script.commands run plain refl (started_keeps script logs) all))
+    by_test (all_read run.progress.context.opened run.left) run refl some (run_keeps script.dialect logs logs no_tracks (started script) script.commands run plain.0 (refl, plain.1) (started_keeps script logs) all))
   where
     by_test : (b : Bool) (run : Run) → all_read run.progress.context.opened run.left ≡ b → (if b then Some run.entries else None) ≡ Some entries → RunKeeps script.dialect logs no_tracks [] 0 script.commands run → SessionSays script.dialect logs script.commands entries
     by_test true run e i h =

@@ -13,7 +13,7 @@ use Rattle.conn_reading.specs.Seats.{Seat, entry_without, is_kept, put_reply, pu
 use Rattle.conn_reading.specs.Sessions.{Each}
 use Rattle.conn_reading.proofs.ByNumber.{one_there, at_within, at-set, at-set_other}
 use Rattle.conn_reading.proofs.EachSeat.{held, count, held-append, each-append, count-append, count_here, count_other}
-use Rattle.conn_reading.proofs.SessionKept.{Tracks, SeatOf, IsAtNumber, IsFree, Keeps, ProgressKeeps, TakenKeeps, says_nothing, says_still}
+use Rattle.conn_reading.proofs.SessionKept.{IsOf, Tracks, SeatOf, IsAtNumber, IsFree, Keeps, ProgressKeeps, TakenKeeps, says_nothing, says_still}
 use Rattle.conn_reading.proofs.SessionOpens.{opening_keeps}
 
 -- a connection in a slot was opened
@@ -26,9 +26,9 @@ opened_held d logs left tracks slots out opened n h there = elim (leb_tells open
 -- ---- get
 
 -- a connection in the front slot
-kept_keeps : (d : Dialect) (logs left : ServerLogs) (tracks : Tracks) (p : Progress) (line : ℕ) (seat : Seat) (rest : List (Option Seat)) → p.dialect ≡ d → Keeps d logs left tracks (seat ∷ held rest) p.context.out p.context.opened
+kept_keeps : (d : Dialect) (logs left : ServerLogs) (tracks : Tracks) (p : Progress) (line : ℕ) (seat : Seat) (rest : List (Option Seat)) → IsOf d p → Keeps d logs left tracks (seat ∷ held rest) p.context.out p.context.opened
     → TakenKeeps d logs tracks p.context.opened None p.context.blocks p.context.blocks (taken_kept p left line rest seat)
-kept_keeps d logs left tracks p line seat rest dialect h =
+kept_keeps d logs left tracks p line seat rest is_of h =
     record {
       tracks = tracks;
       progress = record {
@@ -41,9 +41,10 @@ kept_keeps d logs left tracks p line seat rest dialect h =
         once = out_once;
         none = λ k l. omega (arith, h.none k l);
       };
-      dialect = dialect;
+      is_of = is_of;
       grows = omega arith;
       open_blocks = refl;
+      registers = λ k. inl refl;
       entry = says_still d logs left tracks p.context.opened p.context.blocks line words.Get replies.Ok seat h.tracked h.in_slots.0 h.free.0 low;
     }
   where
@@ -75,26 +76,27 @@ kept_keeps d logs left tracks p line seat rest dialect h =
       | inr apart ↦ omega (arith, h.once k, ap one_there (at-set_other k m out (Some seat) apart))
     ]
 
-get_keeps_at : (d : Dialect) (logs left : ServerLogs) (tracks : Tracks) (p : Progress) (line : ℕ) (slots : List (Option Seat)) (t : Taken) → p.dialect ≡ d → Keeps d logs left tracks (held slots) p.context.out p.context.opened → p.context.slots ≡ slots
+get_keeps_at : (d : Dialect) (logs left : ServerLogs) (tracks : Tracks) (p : Progress) (line : ℕ) (slots : List (Option Seat)) (t : Taken) → IsOf d p → Keeps d logs left tracks (held slots) p.context.out p.context.opened → p.context.slots ≡ slots
     → reads_get p left line slots ≡ Some t → TakenKeeps d logs tracks p.context.opened None p.context.blocks p.context.blocks t
-get_keeps_at d logs left tracks p line [] t dialect h e is =
+get_keeps_at d logs left tracks p line [] t is_of h e is =
     let same : taken (entry_without line words.Get None replies.NoneFree) p left ≡ t = cc in
     subst (TakenKeeps d logs tracks p.context.opened None p.context.blocks p.context.blocks) same (record {
       tracks = tracks;
       progress = subst (λ (l : List (Option Seat)). Keeps d logs left tracks (held l) p.context.out p.context.opened) (sym e) h;
-      dialect = dialect;
+      is_of = is_of;
       grows = omega arith;
       open_blocks = refl;
+      registers = λ k. inl refl;
       entry = says_nothing d logs tracks p.context.opened p.context.blocks None line words.Get None replies.NoneFree tt;
     })
-get_keeps_at d logs left tracks p line (None ∷ rest) t dialect h e is = opening_keeps d logs left tracks p line rest (url_fault p.dialect p.url) t dialect h is
-get_keeps_at d logs left tracks p line (Some seat ∷ rest) t dialect h e is =
+get_keeps_at d logs left tracks p line (None ∷ rest) t is_of h e is = opening_keeps d logs left tracks p line rest (url_fault p.dialect p.url) t is_of h is
+get_keeps_at d logs left tracks p line (Some seat ∷ rest) t is_of h e is =
     let same : taken_kept p left line rest seat ≡ t = cc in
-    subst (TakenKeeps d logs tracks p.context.opened None p.context.blocks p.context.blocks) same (kept_keeps d logs left tracks p line seat rest dialect h)
+    subst (TakenKeeps d logs tracks p.context.opened None p.context.blocks p.context.blocks) same (kept_keeps d logs left tracks p line seat rest is_of h)
 
-pub get_keeps : (d : Dialect) (logs left : ServerLogs) (tracks : Tracks) (p : Progress) (line : ℕ) (t : Taken) → p.dialect ≡ d → ProgressKeeps d logs left tracks p → reads_get p left line p.context.slots ≡ Some t
+pub get_keeps : (d : Dialect) (logs left : ServerLogs) (tracks : Tracks) (p : Progress) (line : ℕ) (t : Taken) → IsOf d p → ProgressKeeps d logs left tracks p → reads_get p left line p.context.slots ≡ Some t
     → TakenKeeps d logs tracks p.context.opened None p.context.blocks p.context.blocks t
-get_keeps d logs left tracks p line t dialect h is = get_keeps_at d logs left tracks p line p.context.slots t dialect h refl is
+get_keeps d logs left tracks p line t is_of h is = get_keeps_at d logs left tracks p line p.context.slots t is_of h refl is
 
 -- ---- put
 
@@ -117,10 +119,10 @@ slot_count : (k : ℕ) (seat : Seat) (b : Bool) → count k (held ((if b then So
 slot_count k seat true = omega arith
 slot_count k seat false = omega arith
 
-pub put_keeps : (d : Dialect) (logs left : ServerLogs) (tracks : Tracks) (p : Progress) (line n : ℕ) (o : Option Seat) → at_number n p.context.out ≡ o → p.dialect ≡ d → ProgressKeeps d logs left tracks p
+pub put_keeps : (d : Dialect) (logs left : ServerLogs) (tracks : Tracks) (p : Progress) (line n : ℕ) (o : Option Seat) → at_number n p.context.out ≡ o → IsOf d p → ProgressKeeps d logs left tracks p
     → TakenKeeps d logs tracks p.context.opened None p.context.blocks p.context.blocks (taken_put p left line n o)
-put_keeps d logs left tracks p line n None is dialect h = record { tracks = tracks; progress = h; dialect = dialect; grows = omega arith; open_blocks = refl; entry = says_nothing d logs tracks p.context.opened p.context.blocks None line words.Put (Some n) replies.NotOut tt }
-put_keeps d logs left tracks p line n (Some seat) is dialect h =
+put_keeps d logs left tracks p line n None is is_of h = record { tracks = tracks; progress = h; is_of = is_of; grows = omega arith; open_blocks = refl; registers = λ k. inl refl; entry = says_nothing d logs tracks p.context.opened p.context.blocks None line words.Put (Some n) replies.NotOut tt }
+put_keeps d logs left tracks p line n (Some seat) is is_of h =
     record {
       tracks = tracks;
       progress = record {
@@ -133,9 +135,10 @@ put_keeps d logs left tracks p line n (Some seat) is dialect h =
         once = out_once;
         none = λ k l. omega (arith, h.none k l, counted k, count_none k seat (λ e. absurd (omega (arith, l, low, e))));
       };
-      dialect = dialect;
+      is_of = is_of;
       grows = omega arith;
       open_blocks = refl;
+      registers = λ k. inl refl;
       entry = says_still d logs left tracks p.context.opened p.context.blocks line words.Put (put_reply seat.status) seat h.tracked here.1 tt low;
     }
   where

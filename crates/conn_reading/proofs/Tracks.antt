@@ -6,35 +6,40 @@ use Rattle.conn_model.specs.declared.item.Dialect.{Dialect}
 use Rattle.conn_model.specs.declared.item.Item.{Item}
 use Rattle.conn_manager.specs.Manages.{Done}
 use Rattle.conn_manager.specs.Statuses.{Status, no_depth}
+use Rattle.conn_model.specs.Caches.{nothing_known, Register}
 use Rattle.conn_reading.specs.Folds.{Stack, alone, after_items, kind_of, after_step, fold_of, KeepsLive, AllKeepLive}
 use Rattle.conn_reading.specs.Histories.{Operation, IsOperation, operation_process, Step, Follow, step_items, StartsSetUp, IsHistory}
+use Rattle.conn_reading.specs.Owning.{names_of}
 use Rattle.conn_reading.specs.Reading.{Read, Reads}
 use Rattle.conn_reading.specs.Sessions.{Folded, between}
 use Rattle.conn_reading.specs.declared.blocks.Block.{Block}
+use Rattle.conn_reading.proofs.Rising.{RisesTo, names-append, rises-append}
 
 -- ---- a track
 
--- the calls of a connection so far, and the status and the state after them
+-- the calls of a connection so far, and the status, the state and its cache's register after them
 pub record Track : Type 0 where
   pub steps : List Step
   pub status : Status
   pub state : State
+  pub register : Register
 
 -- no call
 abbrev pub no_track : Track
-no_track = record { steps = []; status = no_depth; state = Idle [] }
+no_track = record { steps = []; status = no_depth; state = Idle []; register = nothing_known.register }
 
--- the calls are a history, and have read all but what is left
+-- the calls are a history, have read all but what is left, and gave names that rise to the counter
 pub record IsTrack (d : Dialect) (log left : List Item) (t : Track) : Type 0 where
   pub follows : Follow d (Idle []) no_depth t.steps t.state t.status
   pub all : log ≡ step_items t.steps ++ left
+  pub names : RisesTo 0 (names_of (step_items t.steps)) t.register.counter
 
 pub is_no_track : (d : Dialect) (log : List Item) → IsTrack d log log no_track
-is_no_track d log = record { follows = (refl, refl); all = refl }
+is_no_track d log = record { follows = (refl, refl); all = refl; names = omega arith }
 
 -- one call more
-abbrev pub moved : Track → Operation → List Item → Read Done → Track
-moved t operation used r = record { steps = t.steps ++ record { operation = operation; items = used; answer = r.value } ∷ []; status = r.value.status; state = r.state }
+abbrev pub moved : Track → Operation → List Item → Read Done → Register → Track
+moved t operation used r register = record { steps = t.steps ++ record { operation = operation; items = used; answer = r.value } ∷ []; status = r.value.status; state = r.state; register = register }
 
 follow-last : (d : Dialect) (s end after : State) (S left : Status) (steps : List Step) (e : Step) → Follow d s S steps end left → IsOperation e.operation → Reads d end (operation_process d left e.operation) e.items e.answer after
     → Follow d s S (steps ++ e ∷ []) after e.answer.status
@@ -52,16 +57,19 @@ pub items-last : (steps : List Step) (e : Step) → step_items (steps ++ e ∷ [
 items-last [] e = append-nil e.items
 items-last (x ∷ steps) e = ap (λ (l : List Item). x.items ++ l) (items-last steps e) ∙ sym (append_assoc x.items (step_items steps) e.items)
 
-pub moved_is : (d : Dialect) (operation : Operation) (log left : List Item) (t : Track) (used : List Item) (r : Read Done) → left ≡ used ++ r.left → Reads d t.state (operation_process d t.status operation) used r.value r.state → IsOperation operation → IsTrack d log left t → IsTrack d log r.left (moved t operation used r)
-moved_is d operation log left t used r all each is h =
+pub moved_is : (d : Dialect) (operation : Operation) (log left : List Item) (t : Track) (used : List Item) (r : Read Done) (register : Register) → left ≡ used ++ r.left → Reads d t.state (operation_process d t.status operation) used r.value r.state → IsOperation operation
+    → RisesTo t.register.counter (names_of used) register.counter → IsTrack d log left t → IsTrack d log r.left (moved t operation used r register)
+moved_is d operation log left t used r register all each is names h =
     let e : Step = record { operation = operation; items = used; answer = r.value } in
     record {
       follows = follow-last d (Idle []) t.state r.state no_depth t.status t.steps e h.follows is each;
       all = h.all ∙ ap (λ (l : List Item). step_items t.steps ++ l) all ∙ sym (append_assoc (step_items t.steps) used r.left) ∙ ap (λ (l : List Item). l ++ r.left) (sym (items-last t.steps e));
+      names = subst (λ (ns : List ℕ). RisesTo 0 ns register.counter) (sym (ap names_of (items-last t.steps e) ∙ names-append (step_items t.steps) used))
+          (rises-append 0 t.register.counter register.counter (names_of (step_items t.steps)) (names_of used) h.names names);
     }
 
-pub moved_count : (t : Track) (operation : Operation) (used : List Item) (r : Read Done) → length (step_items (moved t operation used r).steps) ≡ length (step_items t.steps) + length used
-moved_count t operation used r = ap length (items-last t.steps (record { operation = operation; items = used; answer = r.value })) ∙ length-append (step_items t.steps) used
+pub moved_count : (t : Track) (operation : Operation) (used : List Item) (r : Read Done) (register : Register) → length (step_items (moved t operation used r register).steps) ≡ length (step_items t.steps) + length used
+moved_count t operation used r register = ap length (items-last t.steps (record { operation = operation; items = used; answer = r.value })) ∙ length-append (step_items t.steps) used
 
 -- the log up to what was read is that of the calls
 pub track_log : (d : Dialect) (log left : List Item) (t : Track) (mark : ℕ) → IsTrack d log left t → length (step_items t.steps) ≡ mark → take mark log ≡ step_items t.steps

@@ -10,6 +10,7 @@ use Rattle.conn_model.specs.declared.item.Dialect.{Dialect}
 use Rattle.conn_model.specs.declared.item.Item.{Item}
 use Rattle.conn_model.specs.declared.plan.PlanLine.{PlanLine}
 use Rattle.conn_server.specs.Connected.{planned_at}
+use Rattle.conn_model.specs.Caches.{nothing_known}
 use Rattle.conn_drivers.specs.Establishing.{url_fault}
 use Rattle.conn_manager.specs.Manages.{Done, Reply as Answer}
 use Rattle.conn_manager.specs.Setups.{setup_process}
@@ -21,6 +22,7 @@ use Rattle.conn_script.specs.declared.command.Command.{Command}
 use Rattle.conn_script.specs.declared.command.Script.{Script}
 use Rattle.conn_script.specs.declared.command.Word.{Word}
 use Rattle.conn_script.specs.declared.command.Word.TheVariants as words
+use Rattle.conn_script.specs.declared.query.Declared.{Declared}
 use Rattle.conn_script.specs.declared.request.Request.{Request}
 use Rattle.conn_script.specs.declared.request.Request.TheVariants.{Get, Put, On}
 use Rattle.conn_script.specs.declared.request.Verb.{Verb}
@@ -35,12 +37,13 @@ abbrev pub ServerLogs : Type 0
 ServerLogs = ℕ → List Item
 
 -- where the reading stands: the connections, the attempts to open one so far, the plan, the rows that servers are armed
--- with, what the servers are, and the URL at which they are opened
+-- with, the queries that commands name, what the servers are, and the URL at which they are opened
 pub record Progress : Type 0 where
   pub context : Context
   pub attempts : ℕ
   pub plan : List PlanLine
   pub armed : List Armed
+  pub queries : List Declared
   pub dialect : Dialect
   pub url : List ℕ
 
@@ -62,7 +65,7 @@ with_left logs n rest k = if k == n then rest else logs k
 
 -- the connection after its items were read, of which there were so many before
 abbrev pub seat_after : Seat → ℕ → Read Outcome → Seat
-seat_after seat count r = record seat { status = r.value.status; mark = seat.mark + (count - length r.left); state = r.state }
+seat_after seat count r = record seat { status = r.value.status; mark = seat.mark + (count - length r.left); state = r.state; cache = r.value.cache }
 
 -- the connection stays out, as its items leave it
 abbrev pub taken_on : Progress → ServerLogs → ℕ → Word → ℕ → Seat → Read Outcome → Taken
@@ -77,7 +80,7 @@ not_out p logs line word n = taken (entry_without line word (Some n) replies.Not
 -- the next items of the connection's log are those that the deed asks
 abbrev pub reads_on : Progress → ServerLogs → ℕ → Word → Deed → ℕ → Option Seat → Option Taken
 reads_on p logs line word deed n None = Some (not_out p logs line word n)
-reads_on p logs line word deed n (Some seat) = option_map (taken_on p logs line word n seat) (read p.dialect p.armed seat.state (process_of p.dialect deed seat.status) (logs seat.number))
+reads_on p logs line word deed n (Some seat) = option_map (taken_on p logs line word n seat) (read p.dialect p.armed seat.state (process_of p.dialect p.queries seat.status seat.cache deed) (logs seat.number))
 
 -- a command that is skipped shows its connection, where it is out
 abbrev pub skip_entry : ℕ → Word → ℕ → Option Seat → Entry
@@ -109,7 +112,7 @@ attempted p context = record p { context = context; attempts = min (p.attempts +
 
 -- a connection that was just opened, after the items by which it set itself up, of which there were so many
 abbrev pub new_seat : ℕ → ℕ → Read Done → Seat
-new_seat n count r = record { number = n; status = r.value.status; mark = count; state = r.state }
+new_seat n count r = record { number = n; status = r.value.status; mark = count; state = r.state; cache = nothing_known }
 
 -- an attempt opened a server: these slots are left, and at the server's place stands a connection or none
 abbrev pub with_opened : Progress → List (Option Seat) → Option Seat → Progress
@@ -196,7 +199,7 @@ whole run = if all_read run.progress.context.opened run.left then Some run.entri
 
 -- nothing is open yet
 abbrev pub started : Script → Progress
-started script = record { context = at_first; attempts = 0; plan = script.plan; armed = []; dialect = script.dialect; url = script.url }
+started script = record { context = at_first; attempts = 0; plan = script.plan; armed = []; queries = script.queries; dialect = script.dialect; url = script.url }
 
 -- a script's commands over the logs of its servers, by their numbers
 abbrev pub run_of : Script → ServerLogs → Option Run

@@ -1,8 +1,13 @@
 -- What the commands of a session ask of a connection.
-use Rattle.std.specs.Prelude.{Ok, Err, if◌then◌else◌}
+use Rattle.std.specs.Prelude.{ℕ, ◌==◌, Bool, true, false, List, [], ◌∷◌, map, Option, Some, None, Result, Ok, Err, if◌then◌else◌}
 use Rattle.conn_result.specs.declared.error.Error.{Error}
-use Rattle.conn_model.specs.Process.{Process, map_process}
+use Rattle.conn_result.specs.declared.error.Error.TheVariants.{NotFound}
+use Rattle.conn_model.specs.Process.{Process, Stop, map_process}
 use Rattle.conn_model.specs.declared.item.Dialect.{Dialect}
+use Rattle.conn_model.specs.declared.value.Bind.{Bind}
+use Rattle.conn_model.specs.Caches.{Known}
+use Rattle.conn_cache.specs.QueryProcesses.{Asked, execute_process, ping_process, resized}
+use Rattle.conn_cache.specs.QueryViews.{QueryView}
 use Rattle.conn_manager.specs.Manages.{Done, done, Reply as Answer, send_process, begin_process, begin_test_process, commit_process, rollback_process}
 use Rattle.conn_manager.specs.Statuses.{Status}
 use Rattle.conn_manager.specs.Transactions.{is_broken_error}
@@ -10,6 +15,11 @@ use Rattle.conn_report.specs.declared.entry.Reply.{Reply}
 use Rattle.conn_report.specs.declared.entry.Reply.TheVariants as replies
 use Rattle.conn_script.specs.declared.command.BlockKind.{BlockKind}
 use Rattle.conn_script.specs.declared.command.BlockKind.TheVariants.{Plain, Test}
+use Rattle.conn_script.specs.declared.query.Declared.{Declared}
+use Rattle.conn_script.specs.declared.command.QueryCall.{QueryCall}
+use Rattle.conn_script.specs.declared.command.QueryCall.TheVariants.{Exec}
+use Rattle.conn_script.specs.declared.query.Safety.{Safety}
+use Rattle.conn_script.specs.declared.query.Safety.TheVariants.{Safe, Unsafe, NoChange}
 use Rattle.conn_reading.specs.declared.deed.Deed.{Deed}
 use Rattle.conn_reading.specs.declared.deed.Deed.TheVariants as deeds
 
@@ -33,33 +43,76 @@ close_process Test answer d s = map_process (with_answer (λ _. answer)) (rollba
 
 -- ---- what a deed asks
 
--- what a command replies, and the status that it leaves
+-- what a command replies, and what it leaves of its connection
 pub record Outcome : Type 0 where
   pub reply : Reply
   pub status : Status
+  pub cache : Known
 
--- a reply with a status
-abbrev pub outcome : Reply → Status → Outcome
-outcome r s = record { reply = r; status = s }
+-- a reply with what is left
+abbrev pub outcome : Reply → Status → Known → Outcome
+outcome r s c = record { reply = r; status = s; cache = c }
 
 -- the reply that a call's answer stands for
 abbrev pub reply_as : Answer → Reply
 reply_as (Ok u) = replies.Ok
 reply_as (Err e) = replies.Error e
 
--- the outcome of a call of the manager, or of a text
-abbrev pub told_as : Done → Outcome
-told_as a = outcome (reply_as a.reply) a.status
+-- the outcome of a call of the manager, or of a text, which leaves the cache
+abbrev pub told_as : Known → Done → Outcome
+told_as c a = outcome (reply_as a.reply) a.status c
 
--- the call that a deed is
-abbrev pub call_process : Deed → Dialect → Status → Process Done
-call_process (deeds.Batch text) d s = send_process d text s
-call_process deeds.Begin d s = begin_process d s
-call_process deeds.Commit d s = commit_process d s
-call_process deeds.Rollback d s = rollback_process d s
-call_process deeds.TestBegin d s = begin_test_process d s
-call_process (deeds.Close kind answer) d s = close_process kind answer d s
+-- the reply that the answer to a query stands for
+abbrev pub reply_made : {A : Type 0} → (A → Reply) → Result A Error → Reply
+reply_made made (Ok x) = made x
+reply_made made (Err e) = replies.Error e
 
--- what a deed asks of the connection's server
-abbrev pub process_of : Dialect → Deed → Status → Process Outcome
-process_of d deed s = map_process told_as (call_process deed d s)
+-- the outcome of a query
+abbrev pub asked_as : {A : Type 0} → (A → Reply) → Asked A → Outcome
+asked_as made a = outcome (reply_made made a.reply) a.status a.cache
+
+-- ---- the queries of a script
+
+-- its statement may be kept
+abbrev pub is_safe : Safety → Bool
+is_safe Safe = true
+is_safe Unsafe = false
+is_safe NoChange = false
+
+-- it has anything to do
+abbrev pub has_changes : Safety → Bool
+has_changes Safe = true
+has_changes Unsafe = true
+has_changes NoChange = false
+
+-- what a query of a script is to a connection
+abbrev pub view_of : Declared → QueryView
+view_of q = record { sql = q.text; types = map (λ (b : Bind). b.kind) q.binds; binds = q.binds; is_safe = is_safe q.safety; has_changes = has_changes q.safety; id = q.id }
+
+-- the first query of this number
+abbrev pub find_query : ℕ → List Declared → Option Declared
+find_query n [] = None
+find_query n (q ∷ qs) = if q.number == n then Some q else find_query n qs
+
+-- what is made of a query
+abbrev pub query_call_process : Dialect → QueryCall → QueryView → Status → Known → Process Outcome
+query_call_process d Exec q s c = map_process (asked_as replies.Count) (execute_process d q s c)
+
+-- the same of one that a script has, as it has each that its commands name
+abbrev pub declared_process : Dialect → QueryCall → Option Declared → Status → Known → Process Outcome
+declared_process d call None s c = Stop (outcome (replies.Error NotFound) s c)
+declared_process d call (Some q) s c = query_call_process d call (view_of q) s c
+
+-- ---- all deeds
+
+-- what a deed asks of the connection's server, where the script has these queries and the connection this status and cache
+abbrev pub process_of : Dialect → List Declared → Status → Known → Deed → Process Outcome
+process_of d queries s c (deeds.Batch text) = map_process (told_as c) (send_process d text s)
+process_of d queries s c deeds.Begin = map_process (told_as c) (begin_process d s)
+process_of d queries s c deeds.Commit = map_process (told_as c) (commit_process d s)
+process_of d queries s c deeds.Rollback = map_process (told_as c) (rollback_process d s)
+process_of d queries s c deeds.TestBegin = map_process (told_as c) (begin_test_process d s)
+process_of d queries s c (deeds.Close kind answer) = map_process (told_as c) (close_process kind answer d s)
+process_of d queries s c (deeds.Query call n) = declared_process d call (find_query n queries) s c
+process_of d queries s c (deeds.CacheSize size) = Stop (outcome replies.Ok s (resized size c))
+process_of d queries s c deeds.Ping = map_process (asked_as (λ u. replies.Ok)) (ping_process d s c)

@@ -10,3 +10,5 @@ pub mod Readings
 pub mod Histories
 pub mod Folds
 pub mod Sessions
+pub mod Owning
+pub mod Prepared

@@ -1,6 +1,7 @@
 -- The connections of a session, as its report shows them.
 use Rattle.std.specs.Prelude.{ℕ, zero, suc, Bool, not, List, [], ◌∷◌, Option, Some, None, if◌then◌else◌}
 use Rattle.conn_model.specs.States.{State}
+use Rattle.conn_model.specs.Caches.{Known}
 use Rattle.conn_manager.specs.Statuses.{Status, is_broken}
 use Rattle.conn_report.specs.declared.entry.Entry.{Entry}
 use Rattle.conn_report.specs.declared.entry.Reply.{Reply}
@@ -8,12 +9,13 @@ use Rattle.conn_report.specs.declared.entry.Reply.TheVariants as replies
 use Rattle.conn_script.specs.declared.command.Word.{Word}
 use Rattle.conn_reading.specs.declared.blocks.Block.{Block}
 
--- a connection: its number, its tracked status, how many items its server got, and the state that these items give
+-- a connection: its number, its tracked status, how many items its server got, the state that these items give, and its cache
 pub record Seat : Type 0 where
   pub number : ℕ
   pub status : Status
   pub mark : ℕ
   pub state : State
+  pub cache : Known
 
 -- the slots of the pool, front first, each empty or with a kept connection; the connections that are handed out, each at the
 -- place of its number; how many servers were opened; and the open blocks, innermost first

@@ -12,8 +12,10 @@ use Rattle.conn_report.specs.declared.entry.Reply.{Reply}
 use Rattle.conn_report.specs.declared.entry.Reply.TheVariants as replies
 use Rattle.conn_script.specs.Requests.{request_of}
 use Rattle.conn_script.specs.declared.command.Command.{Command}
+use Rattle.conn_script.specs.declared.command.Script.{Script}
 use Rattle.conn_script.specs.declared.command.Word.{Word}
 use Rattle.conn_script.specs.declared.command.Word.TheVariants as words
+use Rattle.conn_script.specs.declared.query.Declared.{Declared}
 use Rattle.conn_script.specs.declared.request.Request.{Request}
 use Rattle.conn_script.specs.declared.request.Request.TheVariants.{Get, Put, On}
 use Rattle.conn_script.specs.declared.request.Verb.{Verb}
@@ -48,6 +50,14 @@ AsksPlain (On n verb) = SendsPlain verb
 -- and every text of the commands
 abbrev pub AllPlain : List Command → Type 0
 AllPlain commands = Each (λ (c : Command). AsksPlain (request_of c.act)) commands
+
+-- and every text of its queries
+abbrev pub QueriesPlain : List Declared → Type 0
+QueriesPlain queries = Each (λ (q : Declared). is_plain (class q.text) ≡ true) queries
+
+-- so a script sends plain texts
+abbrev pub ScriptPlain : Script → Type 0
+ScriptPlain script = AllPlain script.commands × QueriesPlain script.queries
 
 -- ---- the log up to the mark
 
@@ -122,6 +132,9 @@ deed_kind deeds.Commit = Commits
 deed_kind deeds.Rollback = Rolls
 deed_kind deeds.TestBegin = Begins
 deed_kind (deeds.Close kind answer) = Closes kind
+deed_kind (deeds.Query call n) = Sends
+deed_kind (deeds.CacheSize size) = Sends
+deed_kind deeds.Ping = Sends
 
 -- by the reply to it; where its connection wasn't out nothing was done
 abbrev pub after_kind : Kind → Reply → Stack → Stack

@@ -54,6 +54,9 @@ fn plain_deed<'a>(verb: &Verb<'a>) -> Option<Deed<'a>>
         Verb::Commit => Some(Deed::Commit),
         Verb::Rollback => Some(Deed::Rollback),
         Verb::TestBegin => Some(Deed::TestBegin),
+        Verb::Query(call, query) => Some(Deed::Query(*call, *query)),
+        Verb::Cache(size) => Some(Deed::CacheSize(*size)),
+        Verb::Ping => Some(Deed::Ping),
         Verb::End | Verb::Fail => None,
     }
 }

@@ -1,7 +1,7 @@
 //! What is done on a connection.
-use conn_model::LentText;
+use conn_model::{CacheSize, LentText};
 use conn_result::QueryResult;
-use conn_script::BlockKind;
+use conn_script::{BlockKind, QueryCall};
 
 /// What a command does on its connection, by the blocks that are open.
 #[derive(Debug, Drop)]
@@ -13,4 +13,8 @@ pub enum Deed<'a> {
     TestBegin,
     /// A block closes: what its closure would have answered decides how.
     Close(BlockKind, QueryResult<()>),
+    /// What is made of the declared query of this number.
+    Query(QueryCall, u32),
+    CacheSize(CacheSize),
+    Ping,
 }

@@ -10,7 +10,10 @@ ghost use Rattle.conn_manager.specs.Statuses.{Status};
 ghost use Rattle.conn_report.specs.declared.entry.Entry.{Entry};
 ghost use Rattle.conn_script.specs.Grammar.{script_of};
 ghost use Rattle.conn_script.specs.declared.command.Script.{Script};
-ghost use Rattle.conn_reading.specs.Answered.{ServerLogs, answered};
+ghost use Rattle.conn_cache.specs.Turns.{IsRising};
+ghost use Rattle.conn_reading.specs.Answered.{ServerLogs, answered, started};
+ghost use Rattle.conn_reading.specs.Owning.{EachOwn, names_of};
+ghost use Rattle.conn_reading.specs.Prepared.{EachOnce};
 ghost use Rattle.conn_reading.specs.Verdicts.{Verdict, StandsOver};
 ghost use Rattle.conn_reading.specs.Folds.{alone, fold_of, FoldPremises, NestedMeaning, refuses_transaction};
 ghost use Rattle.conn_reading.specs.Histories.{Step, step_items, IsHistory};
@@ -101,4 +104,27 @@ pub fn dialects_leave_fewer_premises()
         → list_any refuses_transaction (logs n) ≡ false
         → PremisesLeft script.dialect n (logs n) script.commands entries
         → EntryPremises script.dialect n (logs n) script.commands entries }
+{}
+
+/// Each call that a command makes is its own: a query runs its own text with its own binds, and prepares it only where its
+/// connection's cache has no entry of it or isn't looked up, under the next number or for one run. What is left in the cache
+/// is what these items make of it.
+pub fn statements_are_their_own()
+    ensures { (script : Script) (logs : ServerLogs)
+        → EachOwn (started script) logs script.commands }
+{}
+
+/// Each name under which a connection prepares a statement is greater than all before it, whatever sizes its cache was given
+/// in between.
+pub fn names_rise()
+    ensures { (bytes : List ℕ) (script : Script) (logs : ServerLogs) (entries : List Entry)
+        → script_of bytes ≡ Ok script → answered script logs ≡ Some entries
+        → (n : ℕ) → is_opened n entries ≡ true → IsRising 0 (names_of (logs n)) }
+{}
+
+/// Once the statement of a query was accepted to be kept, its connection prepares no query of the same key that is safe to
+/// keep, until its cache gets another size.
+pub fn statements_are_prepared_once()
+    ensures { (bytes : List ℕ) (script : Script) (logs : ServerLogs)
+        → script_of bytes ≡ Ok script → EachOnce (started script) logs script.commands }
 {}

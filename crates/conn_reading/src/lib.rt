@@ -12,5 +12,6 @@ pub use laws::{
     connections_are_handed_out_clean, depth_stands_over_the_server,
     depths_stand_over_their_servers, dialects_leave_fewer_premises, entries_are_borne_out,
     entries_are_recorded, kept_writes_are_the_fold, kept_writes_are_the_fold_of_entries,
-    server_holds_the_stack, servers_hold_the_stacks_of_entries, status_is_borne_out,
+    names_rise, server_holds_the_stack, servers_hold_the_stacks_of_entries,
+    statements_are_prepared_once, statements_are_their_own, status_is_borne_out,
 };

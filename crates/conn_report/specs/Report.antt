@@ -112,6 +112,7 @@ abbrev pub reply_text : Reply → List ℕ
 reply_text replies.Ok = codes "ok"
 reply_text replies.Kept = codes "kept"
 reply_text replies.Closed = codes "closed"
+reply_text (replies.Count n) = codes "count " ++ decimal n
 reply_text replies.NotOut = codes "notout"
 reply_text replies.NoneFree = codes "nonefree"
 reply_text replies.Skipped = codes "skipped"

@@ -13,6 +13,8 @@ pub enum Reply {
     Kept,
     /// The pool closed the connection.
     Closed,
+    /// How many rows a query affected.
+    Count(u64),
     /// The named connection isn't handed out.
     NotOut,
     /// No slot of the pool is free.

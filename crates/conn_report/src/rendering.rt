@@ -21,6 +21,7 @@ impl fmt::Display for Reply {
             Reply::Ok => write!(f, "ok"),
             Reply::Kept => write!(f, "kept"),
             Reply::Closed => write!(f, "closed"),
+            Reply::Count(n) => write!(f, "count {n}"),
             Reply::NotOut => write!(f, "notout"),
             Reply::NoneFree => write!(f, "nonefree"),
             Reply::Skipped => write!(f, "skipped"),
@@ -47,6 +48,19 @@ fn put(place: &mut [u8], end: usize, words: &[u8]) -> usize
     let start = end - words.len();
     place[start..end].copy_from_slice(words);
     start
+}
+
+/// The same of a bar between spaces. It goes byte by byte, since a copy of more of them tests first whether they overlap.
+#[inline(always)]
+fn put_bar(place: &mut [u8], end: usize) -> usize
+    requires { (3 ≤ end) × (end ≤ length place.old) }
+    ensures start { result + 3 ≡ end }
+    ensures written { drop result place.new ≡ codes " | " ++ drop end place.old }
+    ensures len { length place.new ≡ length place.old }
+{
+    let at = put(place, end, b" ");
+    let at = put(place, at, b"|");
+    put(place, at, b" ")
 }
 
 /// Writes the number so that it ends at `end`, and answers where it starts.
@@ -136,6 +150,9 @@ fn put_word(place: &mut [u8], end: usize, word: Word) -> usize
         Word::Commit => put(place, end, Word::Commit.name().as_bytes()),
         Word::Rollback => put(place, end, Word::Rollback.name().as_bytes()),
         Word::TestBegin => put(place, end, Word::TestBegin.name().as_bytes()),
+        Word::Exec => put(place, end, Word::Exec.name().as_bytes()),
+        Word::CacheSize => put(place, end, Word::CacheSize.name().as_bytes()),
+        Word::Ping => put(place, end, Word::Ping.name().as_bytes()),
         Word::Transaction => put(place, end, Word::Transaction.name().as_bytes()),
         Word::End => put(place, end, Word::End.name().as_bytes()),
         Word::Fail => put(place, end, Word::Fail.name().as_bytes()),
@@ -165,15 +182,27 @@ fn put_end(place: &mut [u8], end: usize, entry: &Entry) -> usize
 {
     let at = put(place, end, b"\n");
     let at = put_number_or_dash(place, at, entry.mark);
-    let at = put(place, at, b" | ");
+    let at = put_bar(place, at);
     let at = put_status_or_dash(place, at, entry.status);
-    put(place, at, b" | ")
+    put_bar(place, at)
+}
+
+/// The same of how many rows were affected.
+fn put_count(place: &mut [u8], end: usize, n: u64) -> usize
+    requires { (32 ≤ end) × (end ≤ length place.old) }
+    ensures room { (end ≤ result + 32) × (result ≤ end) }
+    ensures written { drop result place.new
+        ≡ codes " | count " ++ decimal n ++ drop end place.old }
+    ensures len { length place.new ≡ length place.old }
+{
+    let at = put_number(place, end, n);
+    put(place, at, b" | count ")
 }
 
 /// The same of a reply that is no error, and `None` for another.
 fn put_reply(place: &mut [u8], end: usize, reply: Reply) -> Option<usize>
-    requires { (16 ≤ end) × (end ≤ length place.old) }
-    ensures room { IfSome result (λ at. (end ≤ at + 16) × (at ≤ end)) }
+    requires { (32 ≤ end) × (end ≤ length place.old) }
+    ensures room { IfSome result (λ at. (end ≤ at + 32) × (at ≤ end)) }
     ensures written { IfSome result (λ at. drop at place.new
         ≡ codes " | " ++ reply_text reply ++ drop end place.old) }
     ensures len { length place.new ≡ length place.old }
@@ -182,6 +211,7 @@ fn put_reply(place: &mut [u8], end: usize, reply: Reply) -> Option<usize>
         Reply::Ok => Some(put(place, end, b" | ok")),
         Reply::Kept => Some(put(place, end, b" | kept")),
         Reply::Closed => Some(put(place, end, b" | closed")),
+        Reply::Count(n) => Some(put_count(place, end, n)),
         Reply::NotOut => Some(put(place, end, b" | notout")),
         Reply::NoneFree => Some(put(place, end, b" | nonefree")),
         Reply::Skipped => Some(put(place, end, b" | skipped")),
@@ -191,7 +221,7 @@ fn put_reply(place: &mut [u8], end: usize, reply: Reply) -> Option<usize>
 
 /// Writes the entry's line to the end of the place and answers where it starts, where its reply is no error.
 fn put_entry(place: &mut [u8], entry: &Entry) -> Option<usize>
-    requires { 160 ≤ length place.old }
+    requires { 168 ≤ length place.old }
     ensures room { IfSome result (λ at. at ≤ length place.new) }
     ensures written { IfSome result (λ at. drop at place.new ≡ entry_line entry.now) }
 {
@@ -206,7 +236,7 @@ fn push_head(out: &mut Vec<u8>, entry: &Entry) -> Result<(), AllocError>
     ensures { OnOk result (out.new.items ≡ out.old.items ++ entry_head entry.now ++ codes " | ") }
 {
     let mut place = [0; 72];
-    let at = put(&mut place, 72, b" | ");
+    let at = put_bar(&mut place, 72);
     let at = put_head(&mut place, at, entry);
     out.extend_from_slice(&place[at..])
 }
@@ -244,7 +274,7 @@ fn push_entry(
     out: &mut Vec<u8>,
     entry: &Entry,
 ) -> Result<(), AllocError>
-    requires { 160 ≤ length place.old }
+    requires { 168 ≤ length place.old }
     ensures { OnOk result (out.new.items ≡ out.old.items ++ entry_line entry.now) }
 {
     match put_entry(place, entry) {
@@ -301,7 +331,7 @@ pub fn render(alloc: Global, transcript: &Transcript) -> Result<Vec<u8>, AllocEr
         ≡ report transcript.now.entries transcript.now.servers) }
 {
     let mut out = Vec::new(alloc);
-    let mut place = [0; 160];
+    let mut place = [0; 168];
     for entry in transcript.entries.as_slice() {
         push_entry(alloc, &mut place, &mut out, entry)?;
     }

@@ -9,7 +9,7 @@ use Rattle.std.proofs.lemmas.Str.{IsUtf8-from_ascii}
 use Rattle.std.proofs.lemmas.Str.Ascii.{IsAscii-cons}
 use Rattle.conn_model.proofs.Names.{number-decimal}
 use Rattle.conn_script.specs.Continues.{after}
-use Rattle.conn_script.specs.Drafts.{Draft, can_close, command_added, if_closable, with_command}
+use Rattle.conn_script.specs.Drafts.{Draft, can_close, command_added, if_closable, may_come, with_command}
 use Rattle.conn_script.specs.Grammar.{next, with_text}
 use Rattle.conn_script.specs.Openings.{may_stand}
 use Rattle.conn_script.specs.Options.{◌>>=◌, guard}
@@ -40,6 +40,9 @@ holds b x e = ap (λ (t : Bool). guard t x) e
 end_stands : (b k c : ℕ) → b ≡ suc k → may_stand b c (request_of (End c)) ≡ true
 end_stands b k c e = grind (arith, nat_tests)
 
+end_may_come : (d : Draft) (k : ℕ) → d.blocks ≡ suc k → may_come d (request_of (End d.inside)) ≡ true
+end_may_come d k e = ap (λ (b : Bool). b && true) (end_stands d.blocks k d.inside e)
+
 names : (len b i : ℕ) → (nat_le (len + b) 1048576 && nat_lt i 4294967296) ≡ true → i < 4294967296
 names len b i h = grind (arith, nat_tests)
 
@@ -59,7 +62,7 @@ end_comes : (n k : ℕ) (d : Draft) → d.blocks ≡ suc k → can_close d ≡ t
 end_comes n k d e h =
     next_reads n d (end_line d.inside) (end_text d.inside (named d h))
     ∙ end_reads n d d.inside (named d h)
-    ∙ ap (λ (o : Option Draft). o >>= if_closable) (holds (may_stand d.blocks d.inside (request_of (End d.inside))) (command_added n d (End d.inside)) (end_stands d.blocks k d.inside e))
+    ∙ ap (λ (o : Option Draft). o >>= if_closable) (holds (may_come d (request_of (End d.inside))) (command_added n d (End d.inside)) (end_may_come d k e))
     ∙ holds (can_close (command_added n d (End d.inside))) (command_added n d (End d.inside)) (end_added n k d e h)
 
 -- all of them are

@@ -19,7 +19,8 @@ use Rattle.conn_model.specs.declared.item.Dialect.TheVariants.{Pg, Mysql, Sqlite
 use Rattle.conn_script.specs.Grammar.{lines_of, judged, judged_last, next}
 use Rattle.conn_script.specs.Fields.{session_dialect}
 use Rattle.conn_script.specs.Drafts.{Draft, empty_draft}
-use Rattle.conn_script.proofs.Lines.{put_first, left_last, left_bad, next_not_text}
+use Rattle.conn_script.proofs.Pieces.{put_first}
+use Rattle.conn_script.proofs.Lines.{left_last, left_bad, next_not_text}
 
 -- a cut of more bytes
 abbrev pub extended : ℕ → List ℕ → List ℕ × Option (List ℕ) → List ℕ × Option (List ℕ)

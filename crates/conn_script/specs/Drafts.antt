@@ -1,5 +1,5 @@
 -- What the lines so far say, and what one line more adds.
-use Rattle.std.specs.Prelude.{ℕ, ◌+◌, ◌&&◌, not, Bool, false, nat_le, nat_lt, List, [], ◌∷◌, ◌++◌, length, Option, codes}
+use Rattle.std.specs.Prelude.{ℕ, ◌+◌, ◌&&◌, ◌||◌, not, Bool, true, false, nat_le, nat_lt, List, [], ◌∷◌, ◌++◌, length, Option, codes}
 use Rattle.conn_model.specs.declared.item.Dialect.{Dialect}
 use Rattle.conn_model.specs.declared.item.Dialect.TheVariants.{Pg, Mysql, Sqlite}
 use Rattle.conn_model.specs.declared.plan.PlanLine.{PlanLine}
@@ -7,11 +7,16 @@ use Rattle.conn_script.specs.Keys.{is_named_in}
 use Rattle.conn_script.specs.Openings.{blocks_behind, inside_behind, may_stand}
 use Rattle.conn_script.specs.Options.{guard}
 use Rattle.conn_script.specs.Plans.{compare_items, is_setup, refused_key, refused_line}
+use Rattle.conn_script.specs.Queries.{is_declared, is_used}
 use Rattle.conn_script.specs.Requests.{request_of}
 use Rattle.conn_script.specs.declared.command.Act.{Act}
 use Rattle.conn_script.specs.declared.command.Customizer.TheVariants as customizers
 use Rattle.conn_script.specs.declared.command.Script.{Script}
 use Rattle.conn_script.specs.declared.plan.Refused.{Refused}
+use Rattle.conn_script.specs.declared.query.Declared.{Declared}
+use Rattle.conn_script.specs.declared.request.Request.{Request}
+use Rattle.conn_script.specs.declared.request.Request.TheVariants.{On}
+use Rattle.conn_script.specs.declared.request.Verb.TheVariants.{Query}
 
 -- a script so far, how many blocks are open, and the connection that they name
 pub record Draft : Type 0 where
@@ -20,8 +25,8 @@ pub record Draft : Type 0 where
   pub inside : ℕ
 
 -- the draft of a script and its open blocks
-abbrev pub drafted : Script → ℕ → ℕ → Draft
-drafted script blocks inside = record { script = script; blocks = blocks; inside = inside }
+abbrev pub draft_of : Script → ℕ → ℕ → Draft
+draft_of script blocks inside = record { script = script; blocks = blocks; inside = inside }
 
 -- where a server of a dialect is found
 abbrev pub default_url : Dialect → List ℕ
@@ -31,11 +36,20 @@ default_url Sqlite = codes ":memory:"
 
 -- a session over a dialect with a pool of one connection, which is neither customized nor checked
 abbrev pub empty_script : Dialect → Script
-empty_script dialect = record { dialect = dialect; max_size = 1; customizer = customizers.Nop; check = false; url = default_url dialect; plan = []; commands = [] }
+empty_script dialect = record {
+  dialect = dialect;
+  max_size = 1;
+  customizer = customizers.Nop;
+  check = false;
+  url = default_url dialect;
+  plan = [];
+  queries = [];
+  commands = [];
+}
 
 -- the draft of the first line alone
 abbrev pub empty_draft : Dialect → Draft
-empty_draft dialect = drafted (empty_script dialect) 0 0
+empty_draft dialect = draft_of (empty_script dialect) 0 0
 
 -- the draft with one command more, that of line n
 abbrev pub command_added : ℕ → Draft → Act → Draft
@@ -45,9 +59,18 @@ command_added n d act = record {
   inside = inside_behind d.inside (request_of act);
 }
 
--- the draft with one command more, if it may come where these blocks are open
+-- it names no query, or a declared one
+abbrev pub knows : List Declared → Request → Bool
+knows queries (On c (Query call n)) = is_declared queries n
+knows queries request = true
+
+-- it may come where these blocks are open, and these queries declared
+abbrev pub may_come : Draft → Request → Bool
+may_come d request = may_stand d.blocks d.inside request && knows d.script.queries request
+
+-- the draft with one command more, if it may come
 abbrev pub with_command : ℕ → Draft → Act → Option Draft
-with_command n d act = guard (may_stand d.blocks d.inside (request_of act)) (command_added n d act)
+with_command n d act = guard (may_come d (request_of act)) (command_added n d act)
 
 -- the draft with one line of the plan more
 abbrev pub plan_added : Draft → PlanLine → Draft
@@ -55,9 +78,26 @@ plan_added d line = record d { script = record d.script { plan = d.script.plan +
 
 -- the draft with one more item refused, which no other line may refuse, before the first command
 abbrev pub with_refused : Draft → Refused → Option Draft
-with_refused d r = guard (is_setup d.script.commands && not (is_named_in compare_items refused_key d.script.plan (r.server, r.item))) (plan_added d (refused_line r))
+with_refused d r =
+    guard (is_setup d.script.commands
+    && not (is_named_in compare_items refused_key d.script.plan (r.server, r.item)))
+    (plan_added d (refused_line r))
 
--- behind this many commands this many blocks on this connection can be closed: a script has at most 1,048,576 commands, and lines name connections below 2 ^ 32
+-- the draft with one query more
+abbrev pub query_added : Draft → Declared → Draft
+query_added d q = record d { script = record d.script { queries = d.script.queries ++ q ∷ [] } }
+
+-- one of the queries has its number, or its id
+abbrev pub is_taken : List Declared → Declared → Bool
+is_taken queries q = is_declared queries q.number || is_used queries q.id
+
+-- the draft with one more query, whose number and id no other may have, before the first command
+abbrev pub with_query : Draft → Declared → Option Draft
+with_query d q =
+    guard (is_setup d.script.commands && not (is_taken d.script.queries q)) (query_added d q)
+
+-- behind this many commands this many blocks on this connection can be closed: a script has at most
+-- 1,048,576 commands, and lines name connections below 2 ^ 32
 abbrev pub can_end : ℕ → ℕ → ℕ → Bool
 can_end commands blocks inside = nat_le (commands + blocks) 1048576 && nat_lt inside 4294967296
 

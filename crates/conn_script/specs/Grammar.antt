@@ -3,18 +3,23 @@ use Rattle.std.specs.Prelude.{ℕ, ◌+◌, ◌≡◌, ◌==◌, nat_lt, List, [
 use Rattle.std.specs.Option.{option_map}
 use Rattle.std.specs.Str.{bytes_eq, is_utf8}
 use Rattle.conn_model.specs.Numbers.{number}
+use Rattle.conn_model.specs.declared.cache.CacheSize.{CacheSize}
+use Rattle.conn_model.specs.declared.cache.CacheSize.TheVariants.{Unbounded, Disabled}
 pub use Rattle.conn_script.specs.Options.{◌>>=◌, guard}
-use Rattle.conn_script.specs.Words.{split_at, is_statement}
+use Rattle.conn_script.specs.Words.{split_at, pieces, is_statement}
 use Rattle.conn_script.specs.Spelling.{word_named}
 use Rattle.conn_script.specs.Fields.{session_dialect}
 use Rattle.conn_script.specs.Plans.{refused_of}
-use Rattle.conn_script.specs.Drafts.{Draft, empty_draft, with_command, with_refused, if_closable}
+use Rattle.conn_script.specs.Queries.{declared_of}
+use Rattle.conn_script.specs.Drafts.{Draft, empty_draft, with_command, with_query, with_refused, if_closable}
 use Rattle.conn_script.specs.declared.command.Word.{Word}
 use Rattle.conn_script.specs.declared.command.Word.TheVariants as words
 use Rattle.conn_script.specs.declared.command.Act.{Act}
 use Rattle.conn_script.specs.declared.command.Act.TheVariants as acts
 use Rattle.conn_script.specs.declared.command.BlockKind.{BlockKind}
 use Rattle.conn_script.specs.declared.command.BlockKind.TheVariants as kinds
+use Rattle.conn_script.specs.declared.command.QueryCall.{QueryCall}
+use Rattle.conn_script.specs.declared.command.QueryCall.TheVariants.{Exec}
 use Rattle.conn_script.specs.declared.command.Script.{Script}
 use Rattle.conn_script.specs.declared.command.SessionError.{SessionError}
 use Rattle.conn_script.specs.declared.command.SessionError.TheVariants.{BadScript, OutOfMemory}
@@ -24,6 +29,21 @@ abbrev pub connection_alone : Option (List ℕ) → Option ℕ
 connection_alone rest = do
   text ← rest
   number 4294967296 text
+
+-- a connection and a query
+abbrev pub query_call : QueryCall → Option (List ℕ) → Option Act
+query_call call rest = do
+  text ← rest
+  c ← number 4294967296 (split_at 32 text).0
+  query ← (split_at 32 text).1
+  q ← number 4294967296 query
+  Some (acts.Query call c q)
+
+-- the size that is named so
+abbrev pub size_named : List ℕ → Option CacheSize
+size_named bs =
+    if bytes_eq bs (codes "unbounded") then Some Unbounded else
+    if bytes_eq bs (codes "disabled") then Some Disabled else None
 
 -- the block that is named so
 abbrev pub block_named : List ℕ → Option BlockKind
@@ -44,6 +64,13 @@ act_from words.Begin rest = option_map acts.Begin (connection_alone rest)
 act_from words.Commit rest = option_map acts.Commit (connection_alone rest)
 act_from words.Rollback rest = option_map acts.Rollback (connection_alone rest)
 act_from words.TestBegin rest = option_map acts.TestBegin (connection_alone rest)
+act_from words.Exec rest = query_call Exec rest
+act_from words.CacheSize rest = do
+  text ← rest
+  c ← number 4294967296 (split_at 32 text).0
+  size ← (split_at 32 text).1 >>= size_named
+  Some (acts.Cache c size)
+act_from words.Ping rest = option_map acts.Ping (connection_alone rest)
 act_from words.Transaction rest = do
   text ← rest
   c ← number 4294967296 (split_at 32 text).0
@@ -58,28 +85,32 @@ act_of first rest = do
   word ← word_named first
   act_from word rest
 
--- the draft with one line more, the line of number n, by its first word and what follows it behind a space
+-- the draft with the query that a line declares, by what follows its word
+abbrev pub with_declared : Draft → Option (List ℕ) → Option Draft
+with_declared d rest = declared_of rest >>= with_query d
+
+-- the draft with one line more, the line of number n, by its first word and what follows it behind
+-- a space
 abbrev pub with_words : ℕ → Draft → List ℕ × Option (List ℕ) → Option Draft
-with_words n d line = if bytes_eq line.0 (codes "refuse") then (refused_of d.script.dialect line.1 >>= with_refused d) else (act_of line.0 line.1 >>= with_command n d)
+with_words n d line =
+    if bytes_eq line.0 (codes "refuse")
+    then (refused_of d.script.dialect line.1 >>= with_refused d) else
+    if bytes_eq line.0 (codes "query") then with_declared d line.1 else
+    (act_of line.0 line.1 >>= with_command n d)
 
 -- the draft with one more line of text, behind which the lines that are due can still come
 abbrev pub with_text : ℕ → Draft → List ℕ → Option Draft
 with_text n d line = with_words n d (split_at 32 line) >>= if_closable
 
--- the draft that the lines up to this one, the line of number n, make, if a script may go on with it
+-- the draft that the lines up to this one, the line of number n, make, if a script may go on with
+-- it
 abbrev pub next : ℕ → Option Draft → List ℕ → Option Draft
 next n None line = option_map empty_draft (session_dialect line)
 next n (Some d) line = if is_utf8 line then with_text n d line else None
 
--- a byte in front of the first line
-abbrev pub with_first : ℕ → List (List ℕ) → List (List ℕ)
-with_first b [] = (b ∷ []) ∷ []
-with_first b (line ∷ lines) = (b ∷ line) ∷ lines
-
 -- the parts between line feeds; the last one is what follows the last line feed
 abbrev pub lines_of : List ℕ → List (List ℕ)
-lines_of [] = [] ∷ []
-lines_of (b ∷ bs) = if b == 10 then [] ∷ lines_of bs else with_first b (lines_of bs)
+lines_of bs = pieces 10 bs
 
 -- the script of the draft, where no block is open
 abbrev pub script_or_bad : ℕ → Draft → Result Script ℕ
@@ -100,9 +131,11 @@ or_bad n (Some d) f = f d
 abbrev pub judged : ℕ → Option Draft → List (List ℕ) → Result Script ℕ
 judged n draft [] = Err n
 judged n draft (last ∷ []) = judged_last n draft last
-judged n draft (line ∷ more ∷ lines) = or_bad n (next n draft line) (λ d. judged (n + 1) (Some d) (more ∷ lines))
+judged n draft (line ∷ more ∷ lines) =
+    or_bad n (next n draft line) (λ d. judged (n + 1) (Some d) (more ∷ lines))
 
--- what the bytes stand for: a script, or the number of the bad line; 0 where there are more than 16,777,216 bytes
+-- what the bytes stand for: a script, or the number of the bad line; 0 where there are more than
+-- 16,777,216 bytes
 abbrev pub script_of : List ℕ → Result Script ℕ
 script_of bytes = if nat_lt 16777216 (length bytes) then Err 0 else judged 1 None (lines_of bytes)
 

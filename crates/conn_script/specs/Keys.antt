@@ -15,4 +15,5 @@ is_named_in compare key lines k = list_any (λ x. is_key compare k (key x)) line
 
 -- these are the keys that the lines name
 abbrev pub AreKeys : {X K : Type 0} → (K → K → Ordering) → (X → Option K) → List K → List X → Type 0
-AreKeys {X} {K} compare key keys lines = (k : K) → list_any (is_at (compare k)) keys ≡ is_named_in compare key lines k
+AreKeys {X} {K} compare key keys lines =
+    (k : K) → list_any (is_at (compare k)) keys ≡ is_named_in compare key lines k

@@ -1,8 +1,9 @@
--- The open blocks, all on one connection: which requests may come where they are open, and what is open behind them.
+-- The open blocks, all on one connection: which requests may come where they are open, and what is
+-- open behind them.
 use Rattle.std.specs.Prelude.{ℕ, ◌+◌, ◌-◌, ◌==◌, ◌&&◌, not, Bool, true, false, nat_lt, if◌then◌else◌}
 use Rattle.conn_script.specs.declared.request.Request.{Request}
 use Rattle.conn_script.specs.declared.request.Request.TheVariants.{On}
-use Rattle.conn_script.specs.declared.request.Verb.TheVariants.{Batch, Block, End, Fail}
+use Rattle.conn_script.specs.declared.request.Verb.TheVariants.{Batch, Query, Cache, Ping, Block, End, Fail}
 
 -- it closes a block
 abbrev pub closes_block : Request → Bool
@@ -15,9 +16,13 @@ abbrev pub bounds_block : Request → Bool
 bounds_block (On c (Block kind)) = true
 bounds_block request = closes_block request
 
--- it may come inside of this many blocks, all on this connection: it names it, and opens a block only where fewer than 64 are open
+-- it may come inside of this many blocks, all on this connection: it names it, and opens a block
+-- only where fewer than 64 are open
 abbrev pub may_stand_inside : ℕ → ℕ → Request → Bool
 may_stand_inside blocks inside (On c (Batch text)) = c == inside
+may_stand_inside blocks inside (On c (Query call query)) = c == inside
+may_stand_inside blocks inside (On c (Cache size)) = c == inside
+may_stand_inside blocks inside (On c Ping) = c == inside
 may_stand_inside blocks inside (On c (Block kind)) = c == inside && nat_lt blocks 64
 may_stand_inside blocks inside (On c End) = c == inside
 may_stand_inside blocks inside (On c Fail) = c == inside
@@ -25,7 +30,8 @@ may_stand_inside blocks inside _ = false
 
 -- it may come where this many blocks are open, all on this connection
 abbrev pub may_stand : ℕ → ℕ → Request → Bool
-may_stand blocks inside request = if blocks == 0 then not (closes_block request) else may_stand_inside blocks inside request
+may_stand blocks inside request =
+    if blocks == 0 then not (closes_block request) else may_stand_inside blocks inside request
 
 -- how many blocks are open behind it
 abbrev pub blocks_behind : ℕ → Request → ℕ

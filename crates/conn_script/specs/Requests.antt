@@ -1,6 +1,7 @@
 -- What a command asks of the pool or of a connection.
 use Rattle.conn_script.specs.declared.command.Act.{Act}
 use Rattle.conn_script.specs.declared.command.Act.TheVariants as acts
+use Rattle.conn_script.specs.declared.command.QueryCall.TheVariants.{Exec}
 use Rattle.conn_script.specs.declared.command.Word.{Word}
 use Rattle.conn_script.specs.declared.command.Word.TheVariants as words
 use Rattle.conn_script.specs.declared.request.Request.{Request}
@@ -17,6 +18,9 @@ request_of (acts.Begin n) = On n verbs.Begin
 request_of (acts.Commit n) = On n verbs.Commit
 request_of (acts.Rollback n) = On n verbs.Rollback
 request_of (acts.TestBegin n) = On n verbs.TestBegin
+request_of (acts.Query call n query) = On n (verbs.Query call query)
+request_of (acts.Cache n size) = On n (verbs.Cache size)
+request_of (acts.Ping n) = On n verbs.Ping
 request_of (acts.Block n kind) = On n (verbs.Block kind)
 request_of (acts.End n) = On n verbs.End
 request_of (acts.Fail n) = On n verbs.Fail
@@ -28,6 +32,9 @@ verb_word verbs.Begin = words.Begin
 verb_word verbs.Commit = words.Commit
 verb_word verbs.Rollback = words.Rollback
 verb_word verbs.TestBegin = words.TestBegin
+verb_word (verbs.Query Exec query) = words.Exec
+verb_word (verbs.Cache size) = words.CacheSize
+verb_word verbs.Ping = words.Ping
 verb_word (verbs.Block kind) = words.Transaction
 verb_word verbs.End = words.End
 verb_word verbs.Fail = words.Fail

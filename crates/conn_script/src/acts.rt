@@ -1,13 +1,13 @@
 //! What commands ask for.
 ghost use Rattle.std.specs.Prelude.{◌≡◌};
 ghost use Rattle.std.specs.Option.{option_copied};
-ghost use Rattle.conn_script.specs.Grammar.{act_from, act_of, block_named, connection_alone};
+ghost use Rattle.conn_script.specs.Grammar.{act_from, act_of, block_named, connection_alone, query_call, size_named};
 ghost use Rattle.conn_script.specs.Spelling.{word_named};
 
 use crate::statement::is_statement_text;
 use crate::words::cut_word;
-use crate::{Act, BlockKind, Word};
-use conn_model::{LentText, number_u32};
+use crate::{Act, BlockKind, QueryCall, Word};
+use conn_model::{CacheSize, LentText, number_u32};
 
 /// The word that is spelled so.
 fn word_of(text: &str) -> Option<Word>
@@ -28,7 +28,8 @@ fn connection_in(rest: Option<&str>) -> Option<u32>
     number_u32(rest?)
 }
 
-fn batch_in<'a>(rest: Option<&'a str>) -> Option<Act<'a>>
+/// The batch of a connection and a statement.
+pub fn batch_in<'a>(rest: Option<&'a str>) -> Option<Act<'a>>
     ensures { result ≡ act_from Word.Batch (option_copied rest.entry) }
 {
     let (connection, statement) = cut_word(rest?);
@@ -38,6 +39,38 @@ fn batch_in<'a>(rest: Option<&'a str>) -> Option<Act<'a>>
         return None;
     }
     Some(Act::Batch(connection, LentText::new(statement)))
+}
+
+/// The connection and the query.
+fn query_in<'a>(call: QueryCall, rest: Option<&'a str>) -> Option<Act<'a>>
+    ensures { result ≡ query_call call (option_copied rest.entry) }
+{
+    let (connection, query) = cut_word(rest?);
+    let connection = number_u32(connection)?;
+    let query = number_u32(query?)?;
+    Some(Act::Query(call, connection, query))
+}
+
+/// The size that is named so.
+fn size_of(text: &str) -> Option<CacheSize>
+    ensures { result ≡ size_named text.now }
+{
+    if text == "unbounded" {
+        return Some(CacheSize::Unbounded);
+    }
+    if text == "disabled" {
+        return Some(CacheSize::Disabled);
+    }
+    None
+}
+
+fn size_in<'a>(rest: Option<&'a str>) -> Option<Act<'a>>
+    ensures { result ≡ act_from Word.CacheSize (option_copied rest.entry) }
+{
+    let (connection, size) = cut_word(rest?);
+    let connection = number_u32(connection)?;
+    let size = size_of(size?)?;
+    Some(Act::Cache(connection, size))
 }
 
 /// The block that is named so.
@@ -74,6 +107,9 @@ fn act_by<'a>(word: Word, rest: Option<&'a str>) -> Option<Act<'a>>
         Word::Commit => connection_in(rest).map(|c| Act::Commit(c)),
         Word::Rollback => connection_in(rest).map(|c| Act::Rollback(c)),
         Word::TestBegin => connection_in(rest).map(|c| Act::TestBegin(c)),
+        Word::Exec => query_in(QueryCall::Exec, rest),
+        Word::CacheSize => size_in(rest),
+        Word::Ping => connection_in(rest).map(|c| Act::Ping(c)),
         Word::Transaction => block_in(rest),
         Word::End => connection_in(rest).map(|c| Act::End(c)),
         Word::Fail => connection_in(rest).map(|c| Act::Fail(c)),

@@ -1,7 +1,8 @@
 //! What a script says.
 ghost use Rattle.std.specs.Prelude.{◌≡◌};
 
-use conn_model::{Dialect, LentText, PlanLine, Text};
+use crate::Declareds;
+use conn_model::{CacheSize, Dialect, LentText, PlanLine, Text};
 use sqlite_items::Items;
 
 /// The first word of a command.
@@ -14,6 +15,9 @@ pub enum Word {
     Commit,
     Rollback,
     TestBegin,
+    Exec,
+    CacheSize,
+    Ping,
     Transaction,
     End,
     Fail,
@@ -23,7 +27,7 @@ impl Word {
     ghost use Rattle.conn_script.specs.Spelling.{word_text};
 
     /// All of them.
-    pub const ALL: [Word; 10] = [
+    pub const ALL: [Word; 13] = [
         Word::Get,
         Word::Put,
         Word::Batch,
@@ -31,6 +35,9 @@ impl Word {
         Word::Commit,
         Word::Rollback,
         Word::TestBegin,
+        Word::Exec,
+        Word::CacheSize,
+        Word::Ping,
         Word::Transaction,
         Word::End,
         Word::Fail,
@@ -48,6 +55,9 @@ impl Word {
             Word::Commit => "commit",
             Word::Rollback => "rollback",
             Word::TestBegin => "testbegin",
+            Word::Exec => "exec",
+            Word::CacheSize => "cachesize",
+            Word::Ping => "ping",
             Word::Transaction => "transaction",
             Word::End => "end",
             Word::Fail => "fail",
@@ -62,6 +72,13 @@ pub enum BlockKind {
     Test,
 }
 
+/// What is made of a query.
+#[derive(Clone, Copy, Debug, PartialEq, Eq)]
+pub enum QueryCall {
+    /// It is run, and the rows that it affected are counted.
+    Exec,
+}
+
 /// What a command asks for. The first number is the connection; a text stands in the bytes of the script.
 #[derive(Debug, Drop)]
 pub enum Act<'a> {
@@ -72,6 +89,10 @@ pub enum Act<'a> {
     Commit(u32),
     Rollback(u32),
     TestBegin(u32),
+    /// The second number is that of a declared query.
+    Query(QueryCall, u32, u32),
+    Cache(u32, CacheSize),
+    Ping(u32),
     Block(u32, BlockKind),
     End(u32),
     Fail(u32),
@@ -98,7 +119,7 @@ pub enum Customizer {
     Begin,
 }
 
-/// A session: how its pool is made, what its servers refuse, and what is done.
+/// A session: how its pool is made, what its servers refuse, the queries that commands name, and what is done.
 #[derive(Debug, Drop)]
 pub struct Script<'a> {
     pub dialect: Dialect,
@@ -107,6 +128,7 @@ pub struct Script<'a> {
     pub check: bool,
     pub url: Text,
     pub plan: Plan,
+    pub queries: Declareds<'a>,
     pub commands: Commands<'a>,
 }
 

@@ -2,27 +2,36 @@
 #![tactic(auto)]
 
 mod acts;
+mod binds;
 mod command;
 mod draft;
 mod fields;
 mod kinds;
 mod law;
+mod number_set;
 mod openings;
 mod parse;
 mod plan;
+mod query;
 mod request;
+mod shape;
 mod statement;
+mod values;
 mod words;
 
 pub use command::{
-    Act, BlockKind, Command, Commands, Customizer, Plan, Script, SessionError, Word,
+    Act, BlockKind, Command, Commands, Customizer, Plan, QueryCall, Script, SessionError, Word,
 };
 pub use kinds::kind_name;
 pub use law::{bad_line_is_the_first, bad_lines_do_not, good_lines_go_on};
 pub use parse::parse_script;
+pub use query::{Declared, Declareds, Safety};
 pub use request::{Request, Verb};
+pub use shape::{Shape, ShapeKind};
 
 #[cfg(test)]
 mod dialect_tests;
+#[cfg(test)]
+mod query_tests;
 #[cfg(test)]
 mod tests;

@@ -33,7 +33,10 @@ fn may_stand_inside(blocks: u32, inside: u32, act: &Act) -> bool
 {
     match act.request() {
         Request::On(c, Verb::Block(_)) => c == inside && blocks < MAX_BLOCKS,
-        Request::On(c, Verb::Batch(_) | Verb::End | Verb::Fail) => c == inside,
+        Request::On(
+            c,
+            Verb::Batch(_) | Verb::Query(..) | Verb::Cache(_) | Verb::Ping | Verb::End | Verb::Fail,
+        ) => c == inside,
         _ => false,
     }
 }

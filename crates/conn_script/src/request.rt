@@ -2,8 +2,8 @@
 ghost use Rattle.std.specs.Prelude.{◌≡◌};
 ghost use Rattle.conn_script.specs.Requests.{request_of, verb_word};
 
-use crate::{Act, BlockKind, Word};
-use conn_model::LentText;
+use crate::{Act, BlockKind, QueryCall, Word};
+use conn_model::{CacheSize, LentText};
 
 /// What a command says of the connection that it names.
 #[derive(Debug, Drop)]
@@ -13,6 +13,10 @@ pub enum Verb<'a> {
     Commit,
     Rollback,
     TestBegin,
+    /// What is made of the declared query of this number.
+    Query(QueryCall, u32),
+    Cache(CacheSize),
+    Ping,
     /// Opens a block.
     Block(BlockKind),
     /// Closes the innermost block, in which all went well.
@@ -42,6 +46,9 @@ impl<'a> Act<'a> {
             Act::Commit(n) => Request::On(*n, Verb::Commit),
             Act::Rollback(n) => Request::On(*n, Verb::Rollback),
             Act::TestBegin(n) => Request::On(*n, Verb::TestBegin),
+            Act::Query(call, n, query) => Request::On(*n, Verb::Query(*call, *query)),
+            Act::Cache(n, size) => Request::On(*n, Verb::Cache(*size)),
+            Act::Ping(n) => Request::On(*n, Verb::Ping),
             Act::Block(n, kind) => Request::On(*n, Verb::Block(*kind)),
             Act::End(n) => Request::On(*n, Verb::End),
             Act::Fail(n) => Request::On(*n, Verb::Fail),
@@ -60,6 +67,9 @@ impl<'a> Verb<'a> {
             Verb::Commit => Word::Commit,
             Verb::Rollback => Word::Rollback,
             Verb::TestBegin => Word::TestBegin,
+            Verb::Query(QueryCall::Exec, _) => Word::Exec,
+            Verb::Cache(_) => Word::CacheSize,
+            Verb::Ping => Word::Ping,
             Verb::Block(_) => Word::Transaction,
             Verb::End => Word::End,
             Verb::Fail => Word::Fail,

@@ -57,7 +57,9 @@ fn refuse(
     Answer::Refused(refusal, effect)
 }
 
-/// Answers the call and does what it does: what is ordered comes first, then what the state accepts.
+/// Answers the call and does what it does: what is ordered comes first, then what the state accepts. Where it is called it is
+/// known what kind of call it is, so most of it falls away there.
+#[inline(always)]
 #[tactic(auto, using(crate::proofs::Kinded::ordered_kind, crate::proofs::Kinded::unaccepted_kind))]
 pub fn answer(
     standing: &mut Standing,

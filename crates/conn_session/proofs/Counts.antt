@@ -40,6 +40,7 @@ answers_open deed replies.Closed a u = u
 answers_open deed replies.NotOut a u = u
 answers_open deed replies.NoneFree a u = u
 answers_open deed replies.Skipped a u = u
+answers_open deed (replies.Count k) a u = u
 answers_open deed (replies.Error e) a u = u
 answers_open deed (replies.Pool e) a u = a
 
@@ -92,4 +93,4 @@ all_caused_by old new servers now (x ∷ xs) e same all = (
 )
 
 pub opening-refl : (w : World) → KeepsOpening w w
-opening-refl w = record { dialect = refl; url = refl; size = refl; plan = refl; aims = λ h. h }
+opening-refl w = record { dialect = refl; url = refl; size = refl; queries = refl; plan = refl; aims = λ h. h }

@@ -19,11 +19,12 @@ use Rattle.conn_reading.specs.Seats.{Seat, Context, at_number, entry_on, entry_w
 use Rattle.conn_reading.specs.declared.deed.Deed.{Deed}
 use Rattle.conn_reading.proofs.Appends.{HasRead, reads_acts}
 use Rattle.conn_reading.proofs.InPlace.{only, only_same, reads_in_place}
-use Rattle.conn_reading.proofs.Looks.{command_looks}
+use Rattle.conn_reading.proofs.Owned.{command_looks}
 use Rattle.conn_report.specs.declared.entry.Entry.{Entry}
 use Rattle.conn_report.specs.declared.entry.Reply.{Reply}
 use Rattle.conn_report.specs.declared.entry.Reply.TheVariants as replies
 use Rattle.conn_script.specs.declared.command.Word.{Word}
+use Rattle.conn_script.specs.declared.query.Declared.{Declared}
 use Rattle.conn_server.specs.Ordered.{planned}
 use Rattle.conn_session.specs.Known.{Has, OfServer, Grows, progress, with_more}
 use Rattle.conn_session.specs.Transfers.{puts_out}
@@ -40,9 +41,9 @@ use Rattle.conn_session.proofs.Shown.{seats-at, context-puts_out}
 use Rattle.conn_session.proofs.Totals
 
 -- the entry shows the reply to a deed, and the connection after it
-record Shows (honest : Bool) (line : ℕ) (word : Word) (deed : Deed) (old new : View) (entry : Entry) : Type 0 where
+record Shows (honest : Bool) (queries : List Declared) (line : ℕ) (word : Word) (deed : Deed) (old new : View) (entry : Entry) : Type 0 where
   reply : Reply
-  answered : Replies honest deed old new reply
+  answered : Replies honest queries deed old new reply
   entry_is : entry ≡ entry_on line word reply (seat_of new)
 
 module _ (honest tells : Bool) (honest_tells : honest ≡ true → tells ≡ true) (line n : ℕ) (word : Word) (deed : Deed) (w : World) where
@@ -70,23 +71,23 @@ module _ (honest tells : Bool) (honest_tells : honest ≡ true → tells ≡ tru
       }
 
   -- what its log grew by is read for it
-  module _ (v u : View) (entry : Entry) (there : at_number n w.pool.out ≡ Some v) (shown : Shows tells line word deed v u entry) (holds : Invariant w) where
+  module _ (v u : View) (entry : Entry) (there : at_number n w.pool.out ≡ Some v) (shown : Shows tells w.pool.queries line word deed v u entry) (holds : Invariant w) where
     read_grown : honest ≡ true → IsHonest u.seen → Grows reads_in w (record w { pool = puts_out n (Some u) w.pool }) entry
     read_grown h after_honest = λ logs known.
         let acts = shown.answered.acts in
         let reply = shown.reply in
         let m = v.seen.number in
         let has : Has w.pool.dialect w.connector.armed logs v.seen = Totals.all-at (Has w.pool.dialect w.connector.armed logs) w.pool.out n v there known.servers.out in
-        let r : HasRead false v.seen.dialect v.seen.armed (state_told v.seen) (process_of v.seen.dialect deed v.status) (outcome reply u.status) (logs m) u.seen.log =
-        reads_acts (process_of v.seen.dialect deed v.status) v.seen u.seen (outcome reply u.status) (logs m) (state_told v.seen) (command_looks v.seen.dialect deed v.status) has.log_is (state_of_log v.seen (logs m) has.honest has.log_is)
-        (subst (λ (b : Bool). Acts b (process_of v.seen.dialect deed v.status) v.seen u.seen (outcome reply u.status)) (honest_tells h) acts) in
+        let r : HasRead false v.seen.dialect v.seen.armed (state_told v.seen) (process_of v.seen.dialect w.pool.queries v.status v.cache deed) (outcome reply u.status u.cache) (logs m) u.seen.log =
+        reads_acts (process_of v.seen.dialect w.pool.queries v.status v.cache deed) v.seen u.seen (outcome reply u.status u.cache) (logs m) (state_told v.seen) (command_looks v.seen.dialect w.pool.queries v.status v.cache deed) has.log_is (state_of_log v.seen (logs m) has.honest has.log_is)
+        (subst (λ (b : Bool). Acts b (process_of v.seen.dialect w.pool.queries v.status v.cache deed) v.seen u.seen (outcome reply u.status u.cache)) (honest_tells h) acts) in
         let state_is : Some (state_told u.seen) ≡ Some r.state = sym (state_of_log u.seen (logs m ++ r.more) after_honest r.is_log) ∙ ap (λ (d : Dialect). state_of d (logs m ++ r.more)) acts.same.dialect ∙ r.lawful in
         let state : state_told u.seen ≡ r.state = cc state_is in
         let dialect : v.seen.dialect ≡ w.pool.dialect = has.dialect_is in
-        let read_so : ReadsItems w.pool.dialect [] (state_told v.seen) (process_of w.pool.dialect deed v.status) r.more (outcome reply u.status) (state_told u.seen) =
-        subst (λ (d : Dialect). ReadsItems d [] (state_told v.seen) (process_of d deed v.status) r.more (outcome reply u.status) (state_told u.seen)) dialect
-        (subst (λ (armed : List Armed). ReadsItems v.seen.dialect armed (state_told v.seen) (process_of v.seen.dialect deed v.status) r.more (outcome reply u.status) (state_told u.seen)) has.armed_is
-        (subst (λ (s : State). ReadsItems v.seen.dialect v.seen.armed (state_told v.seen) (process_of v.seen.dialect deed v.status) r.more (outcome reply u.status) s) (sym state) r.reads)) in
+        let read_so : ReadsItems w.pool.dialect [] (state_told v.seen) (process_of w.pool.dialect w.pool.queries v.status v.cache deed) r.more (outcome reply u.status u.cache) (state_told u.seen) =
+        subst (λ (d : Dialect). ReadsItems d [] (state_told v.seen) (process_of d w.pool.queries v.status v.cache deed) r.more (outcome reply u.status u.cache) (state_told u.seen)) dialect
+        (subst (λ (armed : List Armed). ReadsItems v.seen.dialect armed (state_told v.seen) (process_of v.seen.dialect w.pool.queries v.status v.cache deed) r.more (outcome reply u.status u.cache) (state_told u.seen)) has.armed_is
+        (subst (λ (s : State). ReadsItems v.seen.dialect v.seen.armed (state_told v.seen) (process_of v.seen.dialect w.pool.queries v.status v.cache deed) r.more (outcome reply u.status u.cache) s) (sym state) r.reads)) in
         let mark : u.seen.sent ≡ v.seen.sent + length r.more =
         omega (arith, sent_of_log u.seen (logs m ++ r.more) after_honest r.is_log, sent_of_log v.seen (logs m) has.honest has.log_is, length-append (logs m) r.more) in
         let taken_so = reads_in_place (progress w) line word deed n (seat_of v) (seat_of u) r.more reply (seats-at w.pool.out n (Some v) there) read_so (r.anew refl) acts.same.number mark in (
@@ -119,29 +120,29 @@ module _ (honest tells : Bool) (honest_tells : honest ≡ true → tells ≡ tru
         }
 
   -- it was done, or there was no memory for it
-  pub on_answered : (v u : View) (result : Result Reply AllocError) → at_number n w.pool.out ≡ Some v → Does tells deed v u result → (honest ≡ true → IsHonest u.seen) → Invariant w
+  pub on_answered : (v u : View) (result : Result Reply AllocError) → at_number n w.pool.out ≡ Some v → Does tells w.pool.queries deed v u result → (honest ≡ true → IsHonest u.seen) → Invariant w
       → DoesOn honest line n word deed w (record w { pool = puts_out n (Some u) w.pool }) (entered line word n (record w { pool = puts_out n (Some u) w.pool }) result)
   on_answered v u result there does is_honest holds = by_result result does
     where
       new : World
       new = record w { pool = puts_out n (Some u) w.pool }
 
-      keeps : (result : Result Reply AllocError) → Does tells deed v u result → KeepsAll w new
+      keeps : (result : Result Reply AllocError) → Does tells w.pool.queries deed v u result → KeepsAll w new
       keeps result does = record {
         holds = asked_out w n v u there does.same.number holds;
         counts = record {
           later = omega arith;
           refusals_later = λ m. omega (arith, Totals.sum-set_at (refusals m) w.pool.out n v (Some u) there, Totals.refusals_later m v.seen u.seen does.same.number does.later);
         };
-        opening = record { dialect = refl; url = refl; size = refl; plan = refl; aims = λ h. h };
+        opening = record { dialect = refl; url = refl; size = refl; queries = refl; plan = refl; aims = λ h. h };
       }
 
-      by_result : (result : Result Reply AllocError) → Does tells deed v u result → DoesOn honest line n word deed w new (entered line word n new result)
+      by_result : (result : Result Reply AllocError) → Does tells w.pool.queries deed v u result → DoesOn honest line n word deed w new (entered line word n new result)
       by_result (Err e) does = record { keeps = keeps (Err e) does; blocks = refl; plays_entry = tt; caused = tt; grows = λ _. tt }
       by_result (Ok reply) does =
           let entry : Entry = entry_at line word n reply (at_number n (context_of new).out) in
           let entry_is : entry ≡ entry_on line word reply (seat_of u) = ap (entry_at line word n reply) (seats-at new.pool.out n (Some u) (at_number-set n w.pool.out v (Some u) there)) in
-          let shown : Shows tells line word deed v u entry = record { reply = reply; answered = does.answered; entry_is = entry_is } in
+          let shown : Shows tells w.pool.queries line word deed v u entry = record { reply = reply; answered = does.answered; entry_is = entry_is } in
           record {
             keeps = keeps (Ok reply) does;
             blocks = refl;
@@ -165,7 +166,7 @@ honest_place view honest None = tt
 honest_place view honest (Some c) = honest c
 
 module _ (honest tells : Bool) (honest_tells : honest ≡ true → tells ≡ true) (line n : ℕ) (word : Word) (deed : Deed) (w : World) where
-  pub on_place : (o new : Option View) (result : Result Reply AllocError) → at_number n w.pool.out ≡ o → ActsIn tells deed o new (Some result) → (honest ≡ true → OfServer IsHonest new) → Invariant w
+  pub on_place : (o new : Option View) (result : Result Reply AllocError) → at_number n w.pool.out ≡ o → ActsIn tells w.pool.queries deed o new (Some result) → (honest ≡ true → OfServer IsHonest new) → Invariant w
       → DoesOn honest line n word deed w (record w { pool = puts_out n new w.pool }) (entered line word n (record w { pool = puts_out n new w.pool }) result)
   on_place None new result there acts is_honest holds = absurd (cc (acts.1))
   on_place (Some v) None result there acts is_honest holds = absurd acts
@@ -173,7 +174,7 @@ module _ (honest tells : Bool) (honest_tells : honest ≡ true → tells ≡ tru
 
 module _ (tells : Bool) (n : ℕ) (deed : Deed) (w : World) where
   -- nothing was there
-  pub on_left : (o new : Option View) → at_number n w.pool.out ≡ o → ActsIn tells deed o new None → (at_number n w.pool.out ≡ None) × (puts_out n new w.pool ≡ w.pool)
+  pub on_left : (o new : Option View) → at_number n w.pool.out ≡ o → ActsIn tells w.pool.queries deed o new None → (at_number n w.pool.out ≡ None) × (puts_out n new w.pool ≡ w.pool)
   on_left None new there acts = (there, ap (λ (x : Option View). puts_out n x w.pool) acts.0 ∙ vacant_same w.pool n there)
   on_left (Some v) None there acts = absurd acts
   on_left (Some v) (Some u) there acts = absurd acts

@@ -19,6 +19,7 @@ use Rattle.conn_reading.proofs.InOrder.{is_answered, is_opened}
 use Rattle.conn_report.specs.declared.entry.Entry.{Entry}
 use Rattle.conn_script.specs.declared.command.Command.{Command}
 use Rattle.conn_script.specs.declared.command.Script.{Script}
+use Rattle.conn_script.specs.declared.query.Declared.{Declared}
 use Rattle.conn_drivers.specs.Establishing.{AreAt, url_fault}
 use Rattle.conn_server.specs.Connected.{Connected, first_returned, writes_by}
 use Rattle.conn_server.specs.Ordered.{planned}
@@ -111,17 +112,21 @@ module _ (d : Dialect) (plan : List PlanLine) (logs : ServerLogs) (k : Connected
 
 -- ---- a script over new servers
 
-abbrev pub at_start : Dialect → List ℕ → Connected → World
-at_start d url k = record { pool = new_pool d url; connector = k }
+abbrev pub at_start : Dialect → List ℕ → List Declared → Connected → World
+at_start d url queries k = record { pool = new_pool d url queries; connector = k }
 
-known_start : (d : Dialect) (url : List ℕ) (k : Connected) → k.returned ≡ [] → IsKnown (λ n. []) (at_start d url k)
-known_start d url k returned = record {
+-- a pool of the script's dialect, URL and queries
+pub starts : (script : Script) (pool : Pool) (url : List ℕ) (queries : List Declared) → pool ≡ new_pool script.dialect url queries → url ≡ script.url → queries ≡ script.queries → pool ≡ new_pool script.dialect script.url script.queries
+starts script pool url queries is same_url same_queries = is ∙ ap (λ (u : List ℕ). new_pool script.dialect u queries) same_url ∙ ap (new_pool script.dialect script.url) same_queries
+
+known_start : (d : Dialect) (url : List ℕ) (queries : List Declared) (k : Connected) → k.returned ≡ [] → IsKnown (λ n. []) (at_start d url queries k)
+known_start d url queries k returned = record {
   servers = record { slots = (tt, tt); out = tt; returned = subst (AllByRecursion (Has d k.armed (λ n. []))) (sym returned) tt };
   fresh = λ n l. refl;
 }
 
 start_is : (script : Script) (opened attempts : ℕ) (plan : List PlanLine) → opened ≡ 0 → attempts ≡ 0 → plan ≡ script.plan
-    → let P : Type 0 = Progress in let x : P = record { context = record { slots = None ∷ []; out = []; opened = opened; blocks = [] }; attempts = attempts; plan = plan; armed = []; dialect = script.dialect; url = script.url } in x ≡ started script
+    → let P : Type 0 = Progress in let x : P = record { context = record { slots = None ∷ []; out = []; opened = opened; blocks = [] }; attempts = attempts; plan = plan; armed = []; queries = script.queries; dialect = script.dialect; url = script.url } in x ≡ started script
 start_is script opened attempts plan e f g = cc (e, f, g)
 
 -- each server is back, once
@@ -132,7 +137,7 @@ all_back w k holds closed = record {
 }
 
 module _ (honest : Bool) (script : Script) (old new : Connected) (w : World) (entries : List Entry) (opened : old.opened ≡ 0) (returned : old.returned ≡ [])
-    (keeps : KeepsAll (at_start script.dialect script.url old) w) (runs : RunsAll honest script.commands (at_start script.dialect script.url old) w entries) (closed : Closes w new) where
+    (keeps : KeepsAll (at_start script.dialect script.url script.queries old) w) (runs : RunsAll honest script.commands (at_start script.dialect script.url script.queries old) w entries) (closed : Closes w new) where
   plan_is : w.connector.armed ≡ old.armed
   plan_is = keeps.opening.plan
 
@@ -142,7 +147,7 @@ module _ (honest : Bool) (script : Script) (old new : Connected) (w : World) (en
 
   run_answered : honest ≡ true → old.attempts ≡ 0 → old.armed ≡ script.plan → IsAnswered script new entries
   run_answered h attempts armed =
-      let run = runs.grows h (λ n. []) (known_start script.dialect script.url old returned) in
+      let run = runs.grows h (λ n. []) (known_start script.dialect script.url script.queries old returned) in
       let back = all_back w new keeps.holds closed in
       let have = have_all run.0 run.1 in
       let read : ReadsAll (started script) run.0 script.commands entries (progress w) =
@@ -156,21 +161,21 @@ module _ (honest : Bool) (script : Script) (old new : Connected) (w : World) (en
 
   run_kept : honest ≡ true → EachTold script.dialect new (λ n. writes_by true n new.returned)
   run_kept h =
-      let run = runs.grows h (λ n. []) (known_start script.dialect script.url old returned) in
+      let run = runs.grows h (λ n. []) (known_start script.dialect script.url script.queries old returned) in
       each_kept script.dialect old.armed run.0 new (all_back w new keeps.holds closed) (have_all run.0 run.1)
 
   pub runs_script : RunsScript honest script old new entries
   runs_script = record {
     played = (context_of w, subst (λ (n : ℕ). PlaysAll (url_fault script.dialect script.url) (record { slots = None ∷ []; out = []; opened = n; blocks = [] }) script.commands entries (context_of w)) opened runs.plays_entries);
-    caused = all_caused_by (at_start script.dialect script.url old) w (λ n. sum_by (refusals n) new.returned) new.failures entries closed.counts (λ n. closed.totals (refusals n)) (runs.caused tt).0;
+    caused = all_caused_by (at_start script.dialect script.url script.queries old) w (λ n. sum_by (refusals n) new.returned) new.failures entries closed.counts (λ n. closed.totals (refusals n)) (runs.caused tt).0;
     answered = run_answered;
     kept = run_kept;
   }
 
 -- ---- whatever the run answered
 
-module _ (script : Script) (pool : Pool) (old new : Connected) (w : World) (start : pool ≡ new_pool script.dialect script.url) (keeps : KeepsAll (record { pool = pool; connector = old }) w) (closed : Closes w new) where
-  keeps_start : KeepsAll (at_start script.dialect script.url old) w
+module _ (script : Script) (pool : Pool) (old new : Connected) (w : World) (start : pool ≡ new_pool script.dialect script.url script.queries) (keeps : KeepsAll (record { pool = pool; connector = old }) w) (closed : Closes w new) where
+  keeps_start : KeepsAll (at_start script.dialect script.url script.queries old) w
   keeps_start = subst (λ (p : Pool). KeepsAll (record { pool = p; connector = old }) w) start keeps
 
   pub result_runs : {X E : Type 0} (honest : Bool) (commands : List Command) (items : X → List Entry) (result : Result X E) → commands ≡ script.commands → old.opened ≡ 0 → old.returned ≡ []

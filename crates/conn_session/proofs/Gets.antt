@@ -48,7 +48,7 @@ module _ (honest : Bool) (line : ℕ) (w : World) where
         keeps = record {
           holds = handed_out w v holds;
           counts = counts;
-          opening = record { dialect = refl; url = refl; size = refl; plan = refl; aims = λ h. h };
+          opening = record { dialect = refl; url = refl; size = refl; queries = refl; plan = refl; aims = λ h. h };
         };
         plays_entry = record { entry_is = entry_is; context_is = shown };
         caused = λ b. (no_cause old new entry replies.Ok (ap (λ (e : Entry). e.reply) entry_is) (λ h. h) (λ h. h), blocks_later old new refl counts b);

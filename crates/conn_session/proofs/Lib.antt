@@ -9,6 +9,7 @@ pub mod Aims
 pub mod Honest
 pub mod Gets
 pub mod Setups
+pub mod Finding
 pub mod Responses
 pub mod BlockAnswers
 pub mod Deeds

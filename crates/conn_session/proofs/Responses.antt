@@ -1,28 +1,51 @@
 -- A connection that asked what a deed asks, and made its reply of the answer, does as the deed promises.
-use Rattle.std.proofs.Common.{◌≡◌, ◌≢◌, ℕ, Bool, List, [], ◌∷◌, Option, Some, None, refl, sym, ap, subst, Ok, Err, Result, inl, inr, IfOk}
+use Rattle.std.proofs.Common.{◌≡◌, ◌≢◌, ℕ, Bool, true, false, List, [], ◌∷◌, Option, Some, None, refl, sym, ap, subst, ◌∙◌, Ok, Err, Result, inl, inr, IfOk, arith}
 use Rattle.std.specs.Prelude.{IsErr, ◌↔◌}
 use Rattle.std.specs.declared.alloc.AllocError.{AllocError}
 use Rattle.conn_result.specs.declared.error.Error.{Error}
-use Rattle.conn_result.specs.declared.error.Error.TheVariants.{OutOfMemory}
+use Rattle.conn_result.specs.declared.error.Error.TheVariants.{NotFound, OutOfMemory}
 use Rattle.conn_model.specs.Acts.{Acts, IsSameServer}
+use Rattle.conn_model.specs.Caches.{Known}
 use Rattle.conn_model.specs.Nuls.{nul_place, nul_fault}
-use Rattle.conn_model.specs.Process.{Stop, Sent, Follows}
+use Rattle.conn_model.specs.Process.{Process, Stop, Sent, Follows, map_process}
+use Rattle.conn_model.proofs.Goes.{stays, stops}
 use Rattle.conn_model.proofs.NulFree.{fault_place}
-use Rattle.conn_model.specs.Seen.{Seen}
+use Rattle.conn_model.specs.Seen.{Seen, Opened}
+use Rattle.conn_model.specs.declared.cache.CacheSize.{CacheSize}
 use Rattle.conn_model.specs.declared.item.Dialect.{Dialect}
 use Rattle.conn_model.specs.declared.item.Refusal.{Refusal}
 use Rattle.conn_model.proofs.Mapped.{acts_map}
-use Rattle.conn_manager.specs.Manages.{Done, done, Reply as Answer, HasServerCause, IsRefusal, try_text}
+use Rattle.conn_manager.specs.Manages.{Done, done, Reply as Answer, HasServerCause, IsRefusal, send_process, try_text}
 use Rattle.conn_manager.specs.Statuses.{Status, reply_of}
-use Rattle.conn_manager.specs.Views.{View, ActsOrMemoryFrom}
-use Rattle.conn_reading.specs.Asking.{outcome, call_process, process_of, reply_as, told_as}
+use Rattle.conn_manager.specs.Views.{View, ActsOrMemoryFrom, KeepsCache}
+use Rattle.conn_cache.specs.QueryProcesses.{asked, execute_process, ping_process, ping_view, resized, without_value}
+use Rattle.conn_drivers.specs.Queried.{QueriesFrom}
+use Rattle.conn_reading.specs.Asking.{Outcome, asked_as, declared_process, find_query, outcome, process_of, reply_as, reply_made, told_as, view_of}
 use Rattle.conn_reading.specs.declared.deed.Deed.{Deed}
 use Rattle.conn_reading.specs.declared.deed.Deed.TheVariants as deeds
 use Rattle.conn_report.specs.declared.entry.Reply.{Reply}
-use Rattle.conn_session.specs.Responses.{Replies, Does, IsAnswer, IsErrorOf, CountsRefusal, IsRefused}
+use Rattle.conn_report.specs.declared.entry.Reply.TheVariants as replies
+use Rattle.conn_script.specs.declared.command.QueryCall.{QueryCall}
+use Rattle.conn_script.specs.declared.command.QueryCall.TheVariants.{Exec}
+use Rattle.conn_script.specs.declared.query.Declared.{Declared}
+use Rattle.conn_session.specs.Responses.{Asks, Replies, Does, IsAnswer, IsErrorOf, CountsRefusal, IsRefused, answer_reply, count_answer, counts_rows, done_answer}
+
+-- ---- replies
+
+done_is : (answer : Answer) → answer_reply (done_answer answer) ≡ reply_as answer
+done_is (Ok u) = refl
+done_is (Err e) = refl
+
+ping_is : (answer : Answer) → reply_made (λ u. replies.Ok) answer ≡ answer_reply (done_answer answer)
+ping_is (Ok u) = refl
+ping_is (Err e) = refl
+
+count_is : (r : Result ℕ Error) → reply_made replies.Count r ≡ answer_reply (count_answer r)
+count_is (Ok n) = refl
+count_is (Err e) = refl
 
 server_error : (text : List ℕ) (answer : Answer) (refusal : Option Refusal) → answer ≡ reply_of refusal → IsAnswer (deeds.Batch text) (reply_as answer)
-server_error text answer None e = subst (λ (a : Answer). IsAnswer (deeds.Batch text) (reply_as a)) (sym e) tt
+server_error text answer None e = subst (λ (a : Answer). IsAnswer (deeds.Batch text) (reply_as a)) (sym e) refl
 server_error text answer (Some r) e = subst (λ (a : Answer). IsAnswer (deeds.Batch text) (reply_as a)) (sym e) tt
 
 -- a text is answered by its server, or stopped by its NUL
@@ -34,18 +57,16 @@ text_answered d text None s (i ∷ j ∷ is) a nul h = absurd h.1
 text_answered d text (Some n) s [] a nul h = subst (λ (x : Done). IsAnswer (deeds.Batch text) (reply_as x.reply)) (sym h) (nul n refl)
 text_answered d text (Some n) s (i ∷ is) a nul h = absurd h
 
--- a call of the manager answers any error but want of memory
-call_answered : (deed : Deed) (answer : Answer) → ((e : Error) → e ≢ OutOfMemory → IsErrorOf deed e) → answer ≢ Err OutOfMemory → IsAnswer deed (reply_as answer)
-call_answered deed (Ok u) errors memory = tt
-call_answered deed (Err e) errors memory = errors e (λ same. memory (ap (λ (x : Error). Err x) same))
+-- a call that counts no rows answers any error but want of memory
+call_answered : (deed : Deed) (answer : Answer) → counts_rows deed ≡ false → ((e : Error) → e ≢ OutOfMemory → IsErrorOf deed e) → answer ≢ Err OutOfMemory → IsAnswer deed (reply_as answer)
+call_answered deed (Ok u) none errors memory = none
+call_answered deed (Err e) none errors memory = errors e (λ same. memory (ap (λ (x : Error). Err x) same))
 
-is_answer : (deed : Deed) (d : Dialect) (s t : Status) (sent : List Sent) (answer : Answer) → answer ≢ Err OutOfMemory → Follows (call_process deed d s) sent (done answer t) → IsAnswer deed (reply_as answer)
-is_answer (deeds.Batch text) d s t sent answer memory h = text_answered d text (nul_fault d text) s sent (done answer t) (fault_place d text) h
-is_answer deeds.Begin d s t sent answer memory h = call_answered deeds.Begin answer (λ e m. m) memory
-is_answer deeds.Commit d s t sent answer memory h = call_answered deeds.Commit answer (λ e m. m) memory
-is_answer deeds.Rollback d s t sent answer memory h = call_answered deeds.Rollback answer (λ e m. m) memory
-is_answer deeds.TestBegin d s t sent answer memory h = call_answered deeds.TestBegin answer (λ e m. m) memory
-is_answer (deeds.Close kind result) d s t sent answer memory h = call_answered (deeds.Close kind result) answer (λ e m. m) memory
+count_answered : (call : QueryCall) (n : ℕ) (r : Result ℕ Error) → count_answer r ≢ Err OutOfMemory → IsAnswer (deeds.Query call n) (answer_reply (count_answer r))
+count_answered call n (Ok k) memory = refl
+count_answered call n (Err e) memory = λ same. memory (ap (λ (x : Error). Err x) same)
+
+-- ---- refusals
 
 refusal_is : (answer : Answer) → IsRefused (reply_as answer) → IsRefusal answer
 refusal_is (Ok u) h = absurd h
@@ -55,21 +76,120 @@ refusal_is (Err e) h = h
 pub counted_by : (deed : Deed) (old new : Seen) (answer : Answer) → HasServerCause old new answer → CountsRefusal deed old new (reply_as answer)
 counted_by deed old new answer cause = record { later = cause.later; refused = λ h. inl (cause.refused (refusal_is answer h)) }
 
-module _ (honest : Bool) (deed : Deed) (old new : View) (answer : Answer) (asks : ActsOrMemoryFrom honest (call_process deed) old new answer) (cause : CountsRefusal deed old.seen new.seen (reply_as answer)) where
-  same_server : IsSameServer old.seen new.seen
-  same_server = elim asks [ inl h ↦ h.1.same | inr acts ↦ acts.same ]
+pub counted_done : (deed : Deed) (old new : Seen) (answer : Answer) → CountsRefusal deed old new (reply_as answer) → CountsRefusal deed old new (answer_reply (done_answer answer))
+counted_done deed old new answer cause = subst (CountsRefusal deed old new) (sym (done_is answer)) cause
 
-  answers : (reply : Reply) → reply ≡ reply_as answer → answer ≢ Err OutOfMemory → Replies honest deed old new reply
-  answers reply e memory = elim asks [
-    | inl h ↦ absurd (memory h.0)
-    | inr acts ↦ record {
-      acts = subst (λ (r : Reply). Acts honest (process_of old.seen.dialect deed old.status) old.seen new.seen (outcome r new.status)) (sym e)
-          (acts_map told_as honest (call_process deed old.seen.dialect old.status) old.seen new.seen (done answer new.status) acts);
-      answer = subst (IsAnswer deed) (sym e) (is_answer deed old.seen.dialect old.status new.status acts.sent answer memory acts.follows);
-      counted = subst (CountsRefusal deed old.seen new.seen) (sym e) cause;
-    }
+query_refusal : (r : Result ℕ Error) → IsRefused (answer_reply (count_answer r)) → IsRefusal (without_value r)
+query_refusal (Ok n) h = absurd h
+query_refusal (Err e) h = h
+
+-- a query whose refusal is its server's
+pub counted_query : (deed : Deed) (old new : Seen) (r : Result ℕ Error) → HasServerCause old new (without_value r) → CountsRefusal deed old new (answer_reply (count_answer r))
+counted_query deed old new r cause = record { later = cause.later; refused = λ h. inl (cause.refused (query_refusal r h)) }
+
+-- no server was asked
+pub counted_none : (deed : Deed) (s : Seen) (r : Reply) → (IsRefused r → ⊥) → CountsRefusal deed s s r
+counted_none deed s r none = record { later = omega arith; refused = λ h. absurd (none h) }
+
+-- ---- deeds
+
+module _ (honest : Bool) (queries : List Declared) (old new : View) where
+  -- a call that counts no rows, by its process
+  call_asked : (deed : Deed) (call : Dialect → Status → Process Done) (answer : Answer) → ((d : Dialect) (s : Status) (c : Known) → process_of d queries s c deed ≡ map_process (told_as c) (call d s))
+      → ((sent : List Sent) → answer ≢ Err OutOfMemory → Follows (call old.seen.dialect old.status) sent (done answer new.status) → IsAnswer deed (reply_as answer)) → ActsOrMemoryFrom honest call old new answer → KeepsCache old new
+      → Asks honest queries deed old new (done_answer answer)
+  call_asked deed call answer same answers asks kept = elim asks [
+    | inl h ↦ inl (ap done_answer h.0, h.1)
+    | inr acts ↦ inr (
+        let p : Process Outcome = map_process (told_as old.cache) (call old.seen.dialect old.status) in
+        let last : Outcome = outcome (answer_reply (done_answer answer)) new.status new.cache in
+        let is_last : outcome (reply_as answer) new.status old.cache ≡ last =
+        ap (λ (r : Reply). outcome r new.status old.cache) (sym (done_is answer)) ∙ ap (λ (c : Known). outcome (answer_reply (done_answer answer)) new.status c) (sym kept) in
+        record {
+          acts = subst (λ (x : Process Outcome). Acts honest x old.seen new.seen last) (sym (same old.seen.dialect old.status old.cache))
+              (subst (λ (o : Outcome). Acts honest p old.seen new.seen o) is_last (acts_map (told_as old.cache) honest (call old.seen.dialect old.status) old.seen new.seen (done answer new.status) acts));
+          answers = λ memory. subst (IsAnswer deed) (sym (done_is answer)) (answers acts.sent (λ e. memory (ap done_answer e)) acts.follows);
+        })
   ]
 
-  pub does : (result : Result Reply AllocError) → IfOk result (λ reply. reply ≡ reply_as answer) → IsErr result ↔ (answer ≡ Err OutOfMemory) → Does honest deed old new result
-  does (Ok reply) e memory = record { same = same_server; later = cause.later; answered = answers reply e (λ h. let failed = memory.1 h in absurd (cc failed)) }
-  does (Err u) e memory = record { same = same_server; later = cause.later; answered = tt }
+  -- a text
+  pub batch_asked : (text : List ℕ) (answer : Answer) → ActsOrMemoryFrom honest (λ d. send_process d text) old new answer → KeepsCache old new → Asks honest queries (deeds.Batch text) old new (done_answer answer)
+  batch_asked text answer asks kept =
+      call_asked (deeds.Batch text) (λ d. send_process d text) answer (λ d s c. refl)
+      (λ sent memory follows. text_answered old.seen.dialect text (nul_fault old.seen.dialect text) old.status sent (done answer new.status) (fault_place old.seen.dialect text) follows) asks kept
+
+  -- a call of the manager, whose errors are any but want of memory
+  pub manager_asked : (deed : Deed) (call : Dialect → Status → Process Done) (answer : Answer) → ((d : Dialect) (s : Status) (c : Known) → process_of d queries s c deed ≡ map_process (told_as c) (call d s))
+      → counts_rows deed ≡ false → ((e : Error) → e ≢ OutOfMemory → IsErrorOf deed e) → ActsOrMemoryFrom honest call old new answer → KeepsCache old new → Asks honest queries deed old new (done_answer answer)
+  manager_asked deed call answer same none errors asks kept = call_asked deed call answer same (λ sent memory follows. call_answered deed answer none errors memory) asks kept
+
+  -- a query that is executed
+  pub query_asked : (call : QueryCall) (n : ℕ) (q : Declared) (r : Result ℕ Error) → find_query n queries ≡ Some q → QueriesFrom honest (view_of q) (λ d. execute_process d (view_of q)) old new r
+      → Asks honest queries (deeds.Query call n) old new (count_answer r)
+  query_asked Exec n q r found asks = elim asks [
+    | inl idle ↦ inl (ap count_answer idle.is, idle.untouched)
+    | inr tells ↦ inr (
+        let p = execute_process old.seen.dialect (view_of q) old.status old.cache in
+        let last : Reply → Outcome = λ (x : Reply). outcome x new.status new.cache in
+        record {
+          acts = subst (λ (o : Option Declared). Acts honest (declared_process old.seen.dialect Exec o old.status old.cache) old.seen new.seen (last (answer_reply (count_answer r)))) (sym found)
+              (subst (λ (x : Reply). Acts honest (map_process (asked_as replies.Count) p) old.seen new.seen (last x)) (count_is r) (acts_map (asked_as replies.Count) honest p old.seen new.seen (asked r new.status new.cache) tells.acts));
+          answers = count_answered Exec n r;
+        })
+  ]
+
+  pub ping_asked : (answer : Answer) → QueriesFrom honest ping_view ping_process old new answer → Asks honest queries deeds.Ping old new (done_answer answer)
+  ping_asked answer asks = elim asks [
+    | inl idle ↦ inl (ap done_answer idle.is, idle.untouched)
+    | inr tells ↦ inr (
+        let p = ping_process old.seen.dialect old.status old.cache in
+        record {
+          acts = subst (λ (x : Reply). Acts honest (map_process (asked_as (λ u. replies.Ok)) p) old.seen new.seen (outcome x new.status new.cache)) (ping_is answer)
+              (acts_map (asked_as (λ u. replies.Ok)) honest p old.seen new.seen (asked answer new.status new.cache) tells.acts);
+          answers = λ memory. subst (IsAnswer deeds.Ping) (sym (done_is answer)) (call_answered deeds.Ping answer refl (λ e m. m) (λ same. memory (ap done_answer same)));
+        })
+  ]
+
+  pub does : (deed : Deed) (answer : Result Reply Error) → Asks honest queries deed old new answer → CountsRefusal deed old.seen new.seen (answer_reply answer) → (result : Result Reply AllocError) → IfOk result (λ reply. reply ≡ answer_reply answer)
+      → IsErr result ↔ (answer ≡ Err OutOfMemory) → Does honest queries deed old new result
+  does deed answer asks cause result = by_result result
+    where
+      same_server : IsSameServer old.seen new.seen
+      same_server = elim asks [ inl h ↦ h.1.same | inr h ↦ h.acts.same ]
+
+      answered : (reply : Reply) → reply ≡ answer_reply answer → answer ≢ Err OutOfMemory → Replies honest queries deed old new reply
+      answered reply e memory = subst (Replies honest queries deed old new) (sym e) (elim asks [
+        | inl h ↦ absurd (memory h.0)
+        | inr h ↦ record { acts = h.acts; answer = h.answers memory; counted = cause }
+      ])
+
+      by_result : (result : Result Reply AllocError) → IfOk result (λ reply. reply ≡ answer_reply answer) → IsErr result ↔ (answer ≡ Err OutOfMemory) → Does honest queries deed old new result
+      by_result (Ok reply) e memory = record { same = same_server; later = cause.later; answered = answered reply e (λ h. let failed = memory.1 h in absurd (cc failed)) }
+      by_result (Err u) e memory = record { same = same_server; later = cause.later; answered = tt }
+
+-- another size of the cache, which asks nothing
+pub size_asked : (honest : Bool) (queries : List Declared) (size : CacheSize) (old new : View) → new ≡ record old { seen = record old.seen { open_statements = new.seen.open_statements }; cache = resized size old.cache }
+    → Asks honest queries (deeds.CacheSize size) old new (Ok replies.Ok)
+size_asked honest queries size old new is =
+    subst (λ (v : View). Asks honest queries (deeds.CacheSize size) old v (Ok replies.Ok)) (sym is)
+    (inr (record {
+      acts = record {
+        sent = [];
+        follows = refl;
+        log = refl;
+        items = refl;
+        told = λ e. tt;
+        tells = refl;
+        later = omega arith;
+        counted = tt;
+        same = record { dialect = refl; number = refl; armed = refl; quiet = refl; orders = refl };
+      };
+      answers = λ memory. refl;
+    }))
+
+-- a query that the script doesn't declare
+pub none_asked : (honest : Bool) (queries : List Declared) (call : QueryCall) (n : ℕ) (v : View) → find_query n queries ≡ None → Asks honest queries (deeds.Query call n) v v (Err NotFound)
+none_asked honest queries call n v none = inr (record {
+  acts = stays honest (declared_process v.seen.dialect call (find_query n queries) v.status v.cache) v.seen (outcome (replies.Error NotFound) v.status v.cache) (ap (λ (o : Option Declared). declared_process v.seen.dialect call o v.status v.cache) none);
+  answers = λ memory same. cc same;
+})

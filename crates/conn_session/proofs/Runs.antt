@@ -23,6 +23,7 @@ opening-trans a b c p q = record {
   dialect = q.dialect ∙ p.dialect;
   url = q.url ∙ p.url;
   size = q.size ∙ p.size;
+  queries = q.queries ∙ p.queries;
   plan = q.plan ∙ p.plan;
   aims = λ h.
       let before = subst (λ (d : Dialect). AreAt d b.pool.url b.connector.targets) (sym p.dialect) (subst (λ (url : List ℕ). AreAt a.pool.dialect url b.connector.targets) (sym p.url) (p.aims h)) in

@@ -11,6 +11,7 @@ use Rattle.conn_result.specs.declared.error.Error.{Error}
 use Rattle.conn_result.specs.declared.error.Error.TheVariants.{DatabaseError}
 use Rattle.conn_result.specs.Causes.{Rose}
 use Rattle.conn_model.specs.Acts.{Acts}
+use Rattle.conn_model.specs.Caches.{Known, nothing_known}
 use Rattle.conn_model.specs.Armed.{Armed}
 use Rattle.conn_model.specs.Process.{Process, Sent, Follows}
 use Rattle.conn_model.specs.Seen.{Seen}
@@ -57,7 +58,7 @@ use Rattle.conn_session.proofs.Totals
 
 -- where the reading stands, by what changes
 abbrev stands : World → Context → ℕ → List PlanLine → Progress
-stands w context attempts plan = record { context = context; attempts = attempts; plan = plan; armed = []; dialect = w.pool.dialect; url = w.pool.url }
+stands w context attempts plan = record { context = context; attempts = attempts; plan = plan; armed = []; queries = w.pool.queries; dialect = w.pool.dialect; url = w.pool.url }
 
 same_stand : (w : World) (c g : Context) (a b : ℕ) (p q : List PlanLine) → c ≡ g → a ≡ b → p ≡ q → stands w c a p ≡ stands w g b q
 same_stand w c g a b p q s t u = cc (s, t, u)
@@ -135,7 +136,7 @@ module _ (honest : Bool) (line : ℕ) (w : World) (holds : Invariant (in_front N
     keeps targets = record {
       holds = left_empty w k opened returned room holds;
       counts = counts;
-      opening = record { dialect = refl; url = refl; size = refl; plan = plan; aims = at targets };
+      opening = record { dialect = refl; url = refl; size = refl; queries = refl; plan = plan; aims = at targets };
     }
       where
         at : (k.targets ≡ w.connector.targets) ⊎ ((target : Target) × (target_in w.pool.dialect w.pool.url ≡ Ok target) × (k.targets ≡ aimed target w.connector.targets))
@@ -252,7 +253,7 @@ module _ (honest tells : Bool) (honest_tells : honest ≡ true → tells ≡ tru
     }
 
     keeps_out : KeepsAll before out_now
-    keeps_out = record { holds = opened_out w left v numbered opened returned room holds; counts = counts_out; opening = record { dialect = refl; url = refl; size = refl; plan = plan; aims = at } }
+    keeps_out = record { holds = opened_out w left v numbered opened returned room holds; counts = counts_out; opening = record { dialect = refl; url = refl; size = refl; queries = refl; plan = plan; aims = at } }
 
     context_out : context_of out_now ≡ record (context_of before) { slots = slots; out = seats_of w.pool.out ++ Some (seat_of v) ∷ []; opened = n + 1 }
     context_out =
@@ -282,7 +283,7 @@ module _ (honest tells : Bool) (honest_tells : honest ≡ true → tells ≡ tru
     }
 
     keeps_back : KeepsAll before back_now
-    keeps_back = record { holds = opened_back w left s number_back opened returned room holds; counts = counts_back; opening = record { dialect = refl; url = refl; size = refl; plan = plan; aims = at } }
+    keeps_back = record { holds = opened_back w left s number_back opened returned room holds; counts = counts_back; opening = record { dialect = refl; url = refl; size = refl; queries = refl; plan = plan; aims = at } }
 
     context_back : context_of back_now ≡ record (context_of before) { slots = slots ++ None ∷ []; out = seats_of w.pool.out ++ None ∷ []; opened = n + 1 }
     context_back =
@@ -301,7 +302,8 @@ first-last : (n : ℕ) (ss : List Seen) (s : Seen) → sum_by (of_number n) ss �
 first-last n [] s none e = grind arith
 first-last n (t ∷ ts) s none e = grind (arith, none, sum_by-cons (of_number n) t ts, first-last n ts s (omega (arith, none, sum_by-cons (of_number n) t ts)) e)
 
-module _ (honest tells : Bool) (honest_tells : honest ≡ true → tells ≡ true) (line : ℕ) (w : World) (holds : Invariant (in_front None w)) (left : Connected) (last : Seen) (a : Done) (s : SetsUp honest tells w.pool.dialect w.pool.url w.connector left last a) where
+module _ (honest tells : Bool) (honest_tells : honest ≡ true → tells ≡ true) (line : ℕ) (w : World) (holds : Invariant (in_front None w)) (left : Connected) (last : Seen) (a : Done) (s : SetsUp honest tells w.pool.dialect w.pool.url w.connector left last a)
+    (cache : Known) (empty : cache ≡ nothing_known) where
   abbrev numbers : last.number ≡ s.first.number
   numbers = s.set_up.acts.same.number
 
@@ -309,7 +311,7 @@ module _ (honest tells : Bool) (honest_tells : honest ≡ true → tells ≡ tru
   last_number = numbers ∙ s.opened.opens.is_new.number_is
 
   abbrev seat : Seat
-  seat = record { number = last.number; status = a.status; mark = last.sent; state = state_told last }
+  seat = record { number = last.number; status = a.status; mark = last.sent; state = state_told last; cache = cache }
 
   -- what is taken for it, whatever is left
   abbrev took : Taken
@@ -343,7 +345,7 @@ module _ (honest tells : Bool) (honest_tells : honest ≡ true → tells ≡ tru
     mark_is = sent_of_log last r.more (s.honest (honest_tells h)).1 r.is_log
 
     entry_read : ReadsEntry (λ p logs. reads p logs line Get) (progress (in_front None w)) (only m r.more) took.entry took.progress
-    entry_read = get_in_place (progress (in_front None w)) line (seats_of w.pool.slots) seat r.more a.reply refl (ap result_err s.opened.aims) (s.opened.opens.due h) read_so (r.anew refl) last_number mark_is
+    entry_read = get_in_place (progress (in_front None w)) line (seats_of w.pool.slots) seat r.more a.reply refl (ap result_err s.opened.aims) (s.opened.opens.due h) read_so (r.anew refl) last_number mark_is empty
 
     abbrev grown : ServerLogs
     grown = with_more logs (only m r.more)
@@ -379,9 +381,9 @@ module _ (honest tells : Bool) (honest_tells : honest ≡ true → tells ≡ tru
 
 -- its connection is handed out
 pub get_opened : (honest tells : Bool) (honest_tells : honest ≡ true → tells ≡ true) (line : ℕ) (w : World) (holds : Invariant (in_front None w)) (left : Connected) (v : View) (entry : Entry)
-    → SetsUp honest tells w.pool.dialect w.pool.url w.connector left v.seen (done (Ok tt) v.status) → entry ≡ entry_on line words.Get replies.Ok (seat_of v)
+    → SetsUp honest tells w.pool.dialect w.pool.url w.connector left v.seen (done (Ok tt) v.status) → v.cache ≡ nothing_known → entry ≡ entry_on line words.Get replies.Ok (seat_of v)
     → Steps honest line Get (in_front None w) (record { pool = adds_out (Some v) w.pool; connector = left }) (Ok entry)
-get_opened honest tells honest_tells line w holds left v entry s entry_is =
+get_opened honest tells honest_tells line w holds left v entry s empty entry_is =
     let old : World = in_front None w in
     let new : World = record { pool = adds_out (Some v) w.pool; connector = left } in
     let o = s.opened in
@@ -395,7 +397,7 @@ get_opened honest tells honest_tells line w holds left v entry s entry_is =
       plays_entry = subst (λ (f : Option ConnectionError). PlaysOpening f line (seats_of w.pool.slots) (context_of old) entry (context_of new)) (sym fault)
           (inl (record { seat = seat_of v; numbered = numbered honest tells honest_tells line w holds left s.first o v s.set_up.acts.same.number; entry_is = entry_is; context_is = context }));
       caused = λ b. (no_cause old new entry replies.Ok (ap (λ (e : Entry). e.reply) entry_is) (λ h. h) (λ h. h), blocks_later old new refl keeps.counts b);
-      grows = λ h. grows_to honest tells honest_tells line w holds left v.seen (done (Ok tt) v.status) s new entry h
+      grows = λ h. grows_to honest tells honest_tells line w holds left v.seen (done (Ok tt) v.status) s v.cache empty new entry h
           (same_stand w (context_of new) (record (context_of old) { slots = seats_of w.pool.slots; out = seats_of w.pool.out ++ Some (seat_of v) ∷ []; opened = w.connector.opened + 1 }) left.attempts (min (w.connector.attempts + 1) (2 ^ 64 - 1)) left.armed w.connector.armed context (o.opens.counts h) plan_is)
           (opened honest tells honest_tells line w holds left s.first o)
           (λ logs has all. subst (λ (p : List PlanLine). Everywhere (Has w.pool.dialect p logs) new) (sym plan_is) (everywhere-opened (Has w.pool.dialect w.connector.armed logs) w left v returned_is has all))
@@ -444,15 +446,15 @@ get_unset honest tells honest_tells line w holds left last e status entry s entr
         },
         blocks_later old new refl keeps.counts b,
       );
-      grows = λ h. grows_to honest tells honest_tells line w holds left last (done (Err e) status) s new entry h
+      grows = λ h. grows_to honest tells honest_tells line w holds left last (done (Err e) status) s nothing_known refl new entry h
           (same_stand w (context_of new) (record (context_of old) { slots = seats_of w.pool.slots ++ None ∷ []; out = seats_of w.pool.out ++ None ∷ []; opened = n + 1 }) left.attempts (min (w.connector.attempts + 1) (2 ^ 64 - 1)) left.armed w.connector.armed context (o.opens.counts h) plan_is)
           (opened honest tells honest_tells line w holds left s.first o)
           (λ logs has all. subst (λ (p : List PlanLine). Everywhere (Has w.pool.dialect p logs) new) (sym plan_is) (everywhere-opened_back (Has w.pool.dialect w.connector.armed logs) w left last returned_is has all))
           (λ logs known.
-          let x = r honest tells honest_tells line w holds left last (done (Err e) status) s h logs known in
+          let x = r honest tells honest_tells line w holds left last (done (Err e) status) s nothing_known refl h logs known in
           entry_is ∙ ap (λ (k : Option ℕ). make_entry line words.Get (Some last.number) (replies.Pool (CouldntSetupConfiguration e last.number)) None k)
           (ap (option_and_then (λ (t : Seen). option_map length t.log)) back ∙ ap (option_map length) x.is_log
-          ∙ ap (λ (k : ℕ). Some k) (sym (mark_is honest tells honest_tells line w holds left last (done (Err e) status) s h logs known))));
+          ∙ ap (λ (k : ℕ). Some k) (sym (mark_is honest tells honest_tells line w holds left last (done (Err e) status) s nothing_known refl h logs known))));
     }
 
 -- ---- no connection was made, for whatever reason

@@ -47,6 +47,9 @@ module _ (counts : ℕ → ℕ) (n : ℕ) (reply : Reply) where
   plain_hands verbs.Commit = λ h r. absurd h
   plain_hands verbs.Rollback = λ h r. absurd h
   plain_hands verbs.TestBegin = λ h r. absurd h
+  plain_hands (verbs.Query call query) = λ h r. absurd h
+  plain_hands (verbs.Cache size) = λ h r. absurd h
+  plain_hands verbs.Ping = λ h r. absurd h
   plain_hands (verbs.Block kind) = λ h r. absurd h
   plain_hands verbs.End = tt
   plain_hands verbs.Fail = tt
@@ -79,6 +82,9 @@ module _ (counts : ℕ → ℕ) (n : ℕ) (reply : Reply) where
   deed_in_hands b verbs.Commit c = live_hands b.state verbs.Commit
   deed_in_hands b verbs.Rollback c = live_hands b.state verbs.Rollback
   deed_in_hands b verbs.TestBegin c = live_hands b.state verbs.TestBegin
+  deed_in_hands b (verbs.Query call query) c = live_hands b.state (verbs.Query call query)
+  deed_in_hands b (verbs.Cache size) c = live_hands b.state (verbs.Cache size)
+  deed_in_hands b verbs.Ping c = live_hands b.state verbs.Ping
   deed_in_hands b (verbs.Block kind) c = live_hands b.state (verbs.Block kind)
 
   abbrev AllCaused : List Block → Type 0
@@ -101,6 +107,7 @@ module _ (counts : ℕ → ℕ) (n : ℕ) (reply : Reply) where
   opened_caused replies.NotOut = tt
   opened_caused replies.NoneFree = tt
   opened_caused replies.Skipped = tt
+  opened_caused (replies.Count k) = tt
   opened_caused (replies.Error e) = tt
   opened_caused (replies.Pool e) = tt
 
@@ -130,6 +137,7 @@ module _ (counts : ℕ → ℕ) (n : ℕ) (reply : Reply) where
       by_reply replies.NotOut g = all
       by_reply replies.NoneFree g = all
       by_reply replies.Skipped g = all
+      by_reply (replies.Count k) g = all
       by_reply (replies.Error e) g = refusal_caused e blocks g all
       by_reply (replies.Pool e) g = all
 
@@ -142,6 +150,9 @@ module _ (counts : ℕ → ℕ) (n : ℕ) (reply : Reply) where
   after_caused verbs.Commit blocks h all = told_caused blocks h all
   after_caused verbs.Rollback blocks h all = told_caused blocks h all
   after_caused verbs.TestBegin blocks h all = told_caused blocks h all
+  after_caused (verbs.Query call query) blocks h all = told_caused blocks h all
+  after_caused (verbs.Cache size) blocks h all = told_caused blocks h all
+  after_caused verbs.Ping blocks h all = told_caused blocks h all
 
 -- ---- by its deed
 
@@ -245,7 +256,7 @@ told_keeps : (n : ℕ) (verb : Verb) (reply : Reply) (old mid : World) → Keeps
 told_keeps n verb reply old mid k = record {
   holds = record { accounts = record { once = k.holds.accounts.once; none = k.holds.accounts.none }; places = k.holds.places; placed = k.holds.placed; slots = k.holds.slots; room = k.holds.room };
   counts = record { later = k.counts.later; refusals_later = k.counts.refusals_later };
-  opening = record { dialect = k.opening.dialect; url = k.opening.url; size = k.opening.size; plan = k.opening.plan; aims = k.opening.aims };
+  opening = record { dialect = k.opening.dialect; url = k.opening.url; size = k.opening.size; queries = k.opening.queries; plan = k.opening.plan; aims = k.opening.aims };
 }
 
 told_known : (n : ℕ) (verb : Verb) (reply : Reply) (logs : ServerLogs) (w : World) → IsKnown logs w → IsKnown logs (tells_blocks n verb reply w)

@@ -8,8 +8,11 @@ use Rattle.conn_model.specs.Obeyed.{Obeys}
 use Rattle.conn_model.specs.States.{State, Writes, state_of, kept}
 use Rattle.conn_model.specs.declared.item.Dialect.{Dialect}
 use Rattle.conn_model.specs.declared.item.Item.{Item}
-use Rattle.conn_reading.specs.Answered.{ServerLogs, answered, servers_opened}
+use Rattle.conn_cache.specs.Turns.{IsRising}
+use Rattle.conn_reading.specs.Answered.{ServerLogs, answered, servers_opened, started}
 use Rattle.conn_reading.specs.Folds.{refuses_transaction}
+use Rattle.conn_reading.specs.Owning.{EachOwn, names_of}
+use Rattle.conn_reading.specs.Prepared.{EachOnce}
 use Rattle.conn_reading.specs.Sessions.{EachVerdict, EachStandsOver, EachClean, EntryPremises, PremisesLeft, EachNested, is_opened, fold_entries, unfolded}
 use Rattle.conn_report.specs.declared.entry.Entry.{Entry}
 use Rattle.conn_report.specs.declared.entry.Transcript.{Transcript}
@@ -91,6 +94,13 @@ pub record IsParsed (script : Script) : Type 0 where
 abbrev pub AreCaused : Connected → Connected → List Entry → Type 0
 AreCaused old k = AllByRecursion (IsCausedBy (λ n. sum_by (refusals n) k.returned) old.failures k.failures)
 
+-- the statements in the logs are the commands' own: each call that a command makes is its own, the statement of a query is prepared
+-- once for as long as its connection keeps statements, and the names that a connection gives rise
+pub record HasOwnStatements (script : Script) (logs : ServerLogs) (entries : List Entry) : Type 0 where
+  pub own : EachOwn (started script) logs script.commands
+  pub once : EachOnce (started script) logs script.commands
+  pub rising : (n : ℕ) → is_opened n entries ≡ true → IsRising 0 (names_of (logs n))
+
 -- the commands of a script were run, and all servers are back; over an honest connector that was armed with the script's plan
 -- the logs answer the entries
 pub record RunsScript (honest : Bool) (script : Script) (old k : Connected) (entries : List Entry) : Type 0 where
@@ -102,7 +112,8 @@ pub record RunsScript (honest : Bool) (script : Script) (old k : Connected) (ent
 -- a transcript of a script over the servers that were taken back: its commands gave the entries, and the servers kept the
 -- writes; a refusal of a server or of the connector is in an entry only where it was counted; each attempt was at the script's
 -- URL, where the connector tells its targets; an honest connector was armed with the script's plan, and its servers' logs answer
--- the entries to the script and bear them out, and keep the writes that are told, none of them untold
+-- the entries to the script and bear them out, have the commands' own statements, and keep the writes that are told, none of them
+-- untold
 pub record Transcribes (honest tells : Bool) (script : Script) (old k : Connected) (t : Transcript) : Type 0 where
   pub entries : IsPlayed (url_fault script.dialect script.url) script.commands t.entries
   pub servers : t.servers ≡ servers_of tells k.opened k.returned
@@ -112,6 +123,7 @@ pub record Transcribes (honest tells : Bool) (script : Script) (old k : Connecte
   pub answered : honest ≡ true → IsAnswered script k t.entries
   pub kept : honest ≡ true → EachTold script.dialect k (told_at t.servers)
   pub borne_out : honest ≡ true → AreBorneOut script k t.entries
+  pub statements : honest ≡ true → HasOwnStatements script (logs_of k.returned) t.entries
 
 -- a bad script runs nothing; the line isn't told yet
 pub record IsBad (old new : Connected) (error : SessionError) : Type 0 where

@@ -1,5 +1,5 @@
 -- What a connection shows, and what it does for a command.
-use Rattle.std.specs.Prelude.{◌≡◌, ◌≢◌, ◌≤◌, ◌⊎◌, ℕ, Bool, true, false, ⊤, List, [], Option, Some, None, Result, Err, IfOk, MatchResult}
+use Rattle.std.specs.Prelude.{◌≡◌, ◌≢◌, ◌≤◌, ◌⊎◌, ℕ, Bool, true, false, ⊤, List, [], Option, Some, None, Result, Ok, Err, IfOk, MatchResult}
 use Rattle.std.specs.Option.{unwrap_or}
 use Rattle.std.specs.declared.alloc.AllocError.{AllocError}
 use Rattle.conn_result.specs.Causes.{Rose}
@@ -11,14 +11,15 @@ use Rattle.conn_model.specs.Acts.{Acts, IsSameServer}
 use Rattle.conn_model.specs.Nuls.{nul_place}
 use Rattle.conn_model.specs.Seen.{Seen, state_seen}
 use Rattle.conn_model.specs.States.{State, Idle}
-use Rattle.conn_manager.specs.Manages.{IsRefusal, Reply as Answer}
+use Rattle.conn_manager.specs.Manages.{IsRefusal, IsUntouched, Reply as Answer}
 use Rattle.conn_manager.specs.Views.{View}
-use Rattle.conn_reading.specs.Asking.{outcome, process_of}
+use Rattle.conn_reading.specs.Asking.{outcome, process_of, reply_made}
 use Rattle.conn_reading.specs.Seats.{Seat, make_entry, entry_without}
 use Rattle.conn_report.specs.declared.entry.Entry.{Entry}
 use Rattle.conn_report.specs.declared.entry.Reply.{Reply}
 use Rattle.conn_report.specs.declared.entry.Reply.TheVariants as replies
 use Rattle.conn_script.specs.declared.command.Word.TheVariants as words
+use Rattle.conn_script.specs.declared.query.Declared.{Declared}
 use Rattle.conn_server.specs.Connected.{sent_by}
 use Rattle.conn_reading.specs.declared.deed.Deed.{Deed}
 use Rattle.conn_reading.specs.declared.deed.Deed.TheVariants as deeds
@@ -29,7 +30,7 @@ state_told s = unwrap_or (state_seen s) (Idle [])
 
 -- a connection as a reader of logs has it
 abbrev pub seat_of : View → Seat
-seat_of v = record { number = v.seen.number; status = v.status; mark = v.seen.sent; state = state_told v.seen }
+seat_of v = record { number = v.seen.number; status = v.status; mark = v.seen.sent; state = state_told v.seen; cache = v.cache }
 
 -- want of memory
 abbrev pub wants_memory : Answer → Bool
@@ -77,14 +78,22 @@ unopened_entry line e returned = entry_without line words.Get None (replies.Pool
 abbrev pub ShowsUnopened : ℕ → ConnectionError → List Seen → Result Entry AllocError → Type 0
 ShowsUnopened line e returned result = MatchResult result (λ entry. (e ≢ no_memory) × (entry ≡ unopened_entry line e returned)) (λ _. e ≡ no_memory)
 
--- the errors of a deed: a text is refused by its server or stopped by its NUL; want of memory is no reply
+-- the errors of a deed: a text is refused by its server or stopped by its NUL, and a size of the cache has none; want of memory
+-- is no reply
 abbrev pub IsErrorOf : Deed → Error → Type 0
 IsErrorOf (deeds.Batch text) e = IsTextError text e
+IsErrorOf (deeds.CacheSize size) e = ⊥
 IsErrorOf _ e = e ≢ OutOfMemory
+
+-- what a deed does is told by a count of rows
+abbrev pub counts_rows : Deed → Bool
+counts_rows (deeds.Query call n) = true
+counts_rows _ = false
 
 -- a reply to a deed
 abbrev pub IsAnswer : Deed → Reply → Type 0
-IsAnswer deed replies.Ok = ⊤
+IsAnswer deed replies.Ok = counts_rows deed ≡ false
+IsAnswer deed (replies.Count n) = counts_rows deed ≡ true
 IsAnswer deed (replies.Error e) = IsErrorOf deed e
 IsAnswer deed _ = ⊥
 
@@ -98,20 +107,45 @@ pub record CountsRefusal (deed : Deed) (old new : Seen) (reply : Reply) : Type 0
   pub later : old.failures ≤ new.failures
   pub refused : IsRefused reply → Rose old.failures new.failures ⊎ IsBlocks deed reply
 
--- a deed was answered: the connection acted by its process, and a refusal in the reply was counted
-pub record Replies (honest : Bool) (deed : Deed) (old new : View) (reply : Reply) : Type 0 where
-  pub acts : Acts honest (process_of old.seen.dialect deed old.status) old.seen new.seen (outcome reply new.status)
-  pub answer : IsAnswer deed reply
-  pub counted : CountsRefusal deed old.seen new.seen reply
+-- the answer of a call that counts no rows
+abbrev pub done_answer : Answer → Result Reply Error
+done_answer (Ok u) = Ok replies.Ok
+done_answer (Err e) = Err e
 
--- a connection did what a deed asks, or answers want of memory; it still has the same server
-pub record Does (honest : Bool) (deed : Deed) (old new : View) (result : Result Reply AllocError) : Type 0 where
-  pub same : IsSameServer old.seen new.seen
-  pub later : old.seen.failures ≤ new.seen.failures
-  pub answered : IfOk result (Replies honest deed old new)
+-- the answer of a query that was executed
+abbrev pub count_answer : Result ℕ Error → Result Reply Error
+count_answer (Ok n) = Ok (replies.Count n)
+count_answer (Err e) = Err e
+
+-- the reply that an answer stands for
+abbrev pub answer_reply : Result Reply Error → Reply
+answer_reply answer = reply_made (λ r. r) answer
+
+-- the queries of a script, and a deed on a connection, before and after
+module _ (honest : Bool) (queries : List Declared) (deed : Deed) (old new : View) where
+  -- the connection acted by the deed's process, and answers what the deed may
+  pub record IsDone (answer : Result Reply Error) : Type 0 where
+    pub acts : Acts honest (process_of old.seen.dialect queries old.status old.cache deed) old.seen new.seen (outcome (answer_reply answer) new.status new.cache)
+    pub answers : answer ≢ Err OutOfMemory → IsAnswer deed (answer_reply answer)
+
+  -- the deed was asked: it was done, or the connection answers want of memory and did nothing
+  abbrev pub Asks : Result Reply Error → Type 0
+  Asks answer = ((answer ≡ Err OutOfMemory) × IsUntouched old.seen new.seen old.status new.status) ⊎ IsDone answer
+
+  -- the deed was answered: the connection acted by its process, and a refusal in the reply was counted
+  pub record Replies (reply : Reply) : Type 0 where
+    pub acts : Acts honest (process_of old.seen.dialect queries old.status old.cache deed) old.seen new.seen (outcome reply new.status new.cache)
+    pub answer : IsAnswer deed reply
+    pub counted : CountsRefusal deed old.seen new.seen reply
+
+  -- the connection did what the deed asks, or answers want of memory; it still has the same server
+  pub record Does (result : Result Reply AllocError) : Type 0 where
+    pub same : IsSameServer old.seen new.seen
+    pub later : old.seen.failures ≤ new.seen.failures
+    pub answered : IfOk result Replies
 
 -- a deed on the connection at a place, where there is one
-abbrev pub ActsIn : Bool → Deed → Option View → Option View → Option (Result Reply AllocError) → Type 0
-ActsIn honest deed None new result = (new ≡ None) × (result ≡ None)
-ActsIn honest deed (Some v) (Some w) (Some r) = Does honest deed v w r
-ActsIn honest deed (Some v) _ _ = ⊥
+abbrev pub ActsIn : Bool → List Declared → Deed → Option View → Option View → Option (Result Reply AllocError) → Type 0
+ActsIn honest queries deed None new result = (new ≡ None) × (result ≡ None)
+ActsIn honest queries deed (Some v) (Some w) (Some r) = Does honest queries deed v w r
+ActsIn honest queries deed (Some v) _ _ = ⊥

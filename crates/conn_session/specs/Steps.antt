@@ -50,11 +50,13 @@ IsCausedState servers n _ = ⊤
 abbrev pub AreBlocksCaused : World → Type 0
 AreBlocksCaused w = AllByRecursion (λ (b : Block). IsCausedState (λ n. sum_all (refusals n) w) b.connection b.state) w.pool.blocks
 
--- what no command changes: how connections are opened, how many slots there are, the plan, and that attempts are at the URL
+-- what no command changes: how connections are opened, how many slots there are, the queries, the plan, and that attempts are at
+-- the URL
 pub record KeepsOpening (old new : World) : Type 0 where
   pub dialect : new.pool.dialect ≡ old.pool.dialect
   pub url : new.pool.url ≡ old.pool.url
   pub size : new.pool.size ≡ old.pool.size
+  pub queries : new.pool.queries ≡ old.pool.queries
   pub plan : new.connector.armed ≡ old.connector.armed
   pub aims : AreAt old.pool.dialect old.pool.url old.connector.targets → AreAt old.pool.dialect old.pool.url new.connector.targets
 

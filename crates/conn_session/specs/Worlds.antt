@@ -6,12 +6,13 @@ use Rattle.conn_model.specs.declared.item.Dialect.{Dialect}
 use Rattle.conn_manager.specs.Views.{View}
 use Rattle.conn_reading.specs.Seats.{Seat, Context}
 use Rattle.conn_reading.specs.declared.blocks.Block.{Block}
+use Rattle.conn_script.specs.declared.query.Declared.{Declared}
 use Rattle.conn_server.specs.Connected.{Connected}
 use Rattle.conn_session.specs.Responses.{seat_of}
 use Rattle.conn_session.specs.declared.session.Session.{Session}
 
 -- How connections are opened, how many slots there are, the slots that aren't handed out, front first, the connections that
--- are, each at the place of its number, and the open blocks, innermost first.
+-- are, each at the place of its number, the open blocks, innermost first, and the queries that commands name.
 pub record Pool : Type 0 where
   pub dialect : Dialect
   pub url : List ℕ
@@ -19,6 +20,7 @@ pub record Pool : Type 0 where
   pub slots : List (Option View)
   pub out : List (Option View)
   pub blocks : List Block
+  pub queries : List Declared
 
 -- a pool, and the connector from which its servers come
 pub record World : Type 0 where
@@ -26,8 +28,8 @@ pub record World : Type 0 where
   pub connector : Connected
 
 -- a pool of one empty slot
-abbrev pub new_pool : Dialect → List ℕ → Pool
-new_pool dialect url = record { dialect = dialect; url = url; size = 1; slots = None ∷ []; out = []; blocks = [] }
+abbrev pub new_pool : Dialect → List ℕ → List Declared → Pool
+new_pool dialect url queries = record { dialect = dialect; url = url; size = 1; slots = None ∷ []; out = []; blocks = []; queries = queries }
 
 -- connections, by what each shows
 module _ {C : Type 0} (view : C → View) where
@@ -37,7 +39,7 @@ module _ {C : Type 0} (view : C → View) where
 
   -- what a session shows
   abbrev pub pool_of : Session C → Pool
-  pool_of s = record { dialect = s.dialect; url = s.url; size = s.size; slots = views_of s.slots.items; out = views_of s.out.items; blocks = s.blocks }
+  pool_of s = record { dialect = s.dialect; url = s.url; size = s.size; slots = views_of s.slots.items; out = views_of s.out.items; blocks = s.blocks; queries = s.queries }
 
   -- a session and its connector
   abbrev pub world_of : Session C → Connected → World

@@ -1,17 +1,21 @@
 //! What a connection does for a command.
-ghost use Rattle.std.specs.Prelude.{◌≡◌, ◌↔◌, IfOk, IsErr, Err};
+ghost use Rattle.std.specs.Prelude.{◌≡◌, ◌↔◌, ℕ, List, Some, IfOk, IsErr, Err};
 ghost use Rattle.conn_result.specs.declared.error.Error.TheVariants.{OutOfMemory as out_of_memory};
-ghost use Rattle.conn_manager.specs.Views.{ActsOrMemoryFrom};
-ghost use Rattle.conn_reading.specs.Asking.{call_process, close_process, reply_as, rollback_answer};
+ghost use Rattle.conn_manager.specs.Views.{ActsOrMemoryFrom, KeepsCache};
+ghost use Rattle.conn_reading.specs.Asking.{close_process, find_query, reply_as, rollback_answer};
 ghost use Rattle.conn_reading.specs.Seats.{entry_on};
-ghost use Rattle.conn_reading.specs.declared.deed.Deed.TheVariants.{Close as close_deed};
-ghost use Rattle.conn_session.specs.Responses.{seat_of, wants_memory, Does, CountsRefusal};
+ghost use Rattle.conn_reading.specs.declared.deed.Deed.{Deed as deed_type};
+ghost use Rattle.conn_reading.specs.declared.deed.Deed.TheVariants.{Close as close_deed, Query as query_deed};
+ghost use Rattle.conn_script.specs.declared.query.Declared.{Declared as declared_type};
+ghost use Rattle.conn_session.specs.Responses.{answer_reply, count_answer, done_answer, seat_of, wants_memory, Asks, Does, CountsRefusal};
 
+use crate::queries::{Queries, ScriptQuery};
+use conn_drivers::R2D2Connection;
 use conn_manager::{AnsiTransactionManager, Connection};
 use conn_reading::Deed;
 use conn_report::{Entry, Reply};
 use conn_result::{Error, QueryResult};
-use conn_script::{BlockKind, Word};
+use conn_script::{BlockKind, QueryCall, Word};
 use std::alloc::AllocError;
 
 /// Whether a call wanted memory.
@@ -31,13 +35,33 @@ fn rollback_answer(e: Error, answer: QueryResult<()>) -> QueryResult<()>
     }
 }
 
-/// The reply that a call's answer stands for; want of memory has none.
-fn reply_to(answer: QueryResult<()>) -> Result<Reply, AllocError>
-    ensures reply { IfOk result (λ reply. reply ≡ reply_as answer) }
-    ensures memory { IsErr result ↔ (answer ≡ Err out_of_memory) }
+/// The answer of a call that counts no rows.
+fn done_answer(answer: QueryResult<()>) -> QueryResult<Reply>
+    ensures { result ≡ done_answer answer }
 {
     match answer {
         Ok(()) => Ok(Reply::Ok),
+        Err(e) => Err(e),
+    }
+}
+
+/// The answer of a query that was executed.
+fn count_answer(answer: QueryResult<usize>) -> QueryResult<Reply>
+    ensures { result ≡ count_answer answer }
+{
+    match answer {
+        Ok(count) => Ok(Reply::Count(count as u64)),
+        Err(e) => Err(e),
+    }
+}
+
+/// The reply that a deed's answer stands for; want of memory has none.
+fn reply_to(answer: QueryResult<Reply>) -> Result<Reply, AllocError>
+    ensures reply { IfOk result (λ reply. reply ≡ answer_reply answer) }
+    ensures memory { IsErr result ↔ (answer ≡ Err out_of_memory) }
+{
+    match answer {
+        Ok(reply) => Ok(reply),
         Err(Error::OutOfMemory) => Err(AllocError),
         Err(e) => Ok(Reply::Error(e)),
     }
@@ -47,6 +71,7 @@ fn reply_to(answer: QueryResult<()>) -> Result<Reply, AllocError>
 fn close_test<C: Connection>(connection: &mut C, answer: QueryResult<()>) -> QueryResult<()>
     ensures acts { ActsOrMemoryFrom C.is_honest (close_process BlockKind.Test answer)
         (C.view connection.old) (C.view connection.new) result }
+    ensures cache { KeepsCache (C.view connection.old) (C.view connection.new) }
     ensures cause { CountsRefusal (close_deed BlockKind.Test answer) (C.view connection.old).seen
         (C.view connection.new).seen (reply_as result) }
 {
@@ -68,6 +93,7 @@ fn close<C: Connection>(
 ) -> QueryResult<()>
     ensures acts { ActsOrMemoryFrom C.is_honest (close_process kind answer)
         (C.view connection.old) (C.view connection.new) result }
+    ensures cache { KeepsCache (C.view connection.old) (C.view connection.new) }
     ensures cause { CountsRefusal (close_deed kind answer) (C.view connection.old).seen
         (C.view connection.new).seen (reply_as result) }
 {
@@ -80,29 +106,63 @@ fn close<C: Connection>(
     }
 }
 
+/// Makes a query of the script what is asked of it.
+fn query<C: R2D2Connection>(
+    connection: &mut C,
+    call: QueryCall,
+    query: &ScriptQuery<'_>,
+) -> QueryResult<Reply>
+    ensures asks { (queries : List declared_type) → (n : ℕ)
+        → find_query n queries ≡ Some query.now → Asks C.is_honest queries (query_deed call n)
+        (C.view connection.old) (C.view connection.new) result }
+    ensures cause { (deed : deed_type) → CountsRefusal deed (C.view connection.old).seen
+        (C.view connection.new).seen (answer_reply result) }
+{
+    match call {
+        QueryCall::Exec => count_answer(connection.execute_returning_count(query)),
+    }
+}
+
 /// Asks what a deed asks.
-#[tactic(auto, using(crate::proofs::Responses::counted_by))]
-fn ask<C: Connection>(connection: &mut C, deed: &Deed<'_>) -> QueryResult<()>
-    ensures acts { ActsOrMemoryFrom C.is_honest (call_process deed.now)
+fn ask<C: R2D2Connection>(
+    connection: &mut C,
+    queries: &Queries<'_>,
+    deed: &Deed<'_>,
+) -> QueryResult<Reply>
+    ensures asks { Asks C.is_honest queries.now deed.now
         (C.view connection.old) (C.view connection.new) result }
     ensures cause { CountsRefusal deed.now (C.view connection.old).seen
-        (C.view connection.new).seen (reply_as result) }
+        (C.view connection.new).seen (answer_reply result) }
 {
     match deed {
-        Deed::Batch(text) => connection.batch_execute(text.as_str()),
-        Deed::Begin => AnsiTransactionManager::begin_transaction(connection),
-        Deed::Commit => AnsiTransactionManager::commit_transaction(connection),
-        Deed::Rollback => AnsiTransactionManager::rollback_transaction(connection),
-        Deed::TestBegin => connection.begin_test_transaction(),
-        Deed::Close(kind, answer) => close(connection, *kind, *answer),
+        Deed::Batch(text) => done_answer(connection.batch_execute(text.as_str())),
+        Deed::Begin => done_answer(AnsiTransactionManager::begin_transaction(connection)),
+        Deed::Commit => done_answer(AnsiTransactionManager::commit_transaction(connection)),
+        Deed::Rollback => done_answer(AnsiTransactionManager::rollback_transaction(connection)),
+        Deed::TestBegin => done_answer(connection.begin_test_transaction()),
+        Deed::Close(kind, answer) => done_answer(close(connection, *kind, *answer)),
+        Deed::Query(call, number) => match queries.find(*number) {
+            Some(found) => query(connection, *call, found),
+            None => Err(Error::NotFound),
+        },
+        Deed::CacheSize(size) => {
+            connection.set_prepared_statement_cache_size(*size);
+            Ok(Reply::Ok)
+        }
+        Deed::Ping => done_answer(connection.ping()),
     }
 }
 
 /// Does a deed, and gives its reply.
-pub fn act<C: Connection>(connection: &mut C, deed: &Deed<'_>) -> Result<Reply, AllocError>
-    ensures { Does C.is_honest deed.now (C.view connection.old) (C.view connection.new) result }
+pub fn act<C: R2D2Connection>(
+    connection: &mut C,
+    queries: &Queries<'_>,
+    deed: &Deed<'_>,
+) -> Result<Reply, AllocError>
+    ensures { Does C.is_honest queries.now deed.now
+        (C.view connection.old) (C.view connection.new) result }
 {
-    reply_to(ask(connection, deed))
+    reply_to(ask(connection, queries, deed))
 }
 
 /// The entry of a command on this connection.

@@ -3,6 +3,7 @@
 
 mod calls;
 mod places;
+mod queries;
 mod session;
 mod top;
 mod transcript;

@@ -7,8 +7,9 @@ ghost use Rattle.conn_session.specs.Responses.{ActsIn, ShowsUnopened};
 ghost use Rattle.conn_session.specs.Worlds.{part, each_server};
 
 use crate::calls::act;
-use conn_drivers::Establish;
-use conn_manager::{Connection, TransactionManagerStatus};
+use crate::queries::Queries;
+use conn_drivers::{Establish, R2D2Connection};
+use conn_manager::TransactionManagerStatus;
 use conn_reading::Deed;
 use conn_report::{Entry, Reply};
 use conn_result::ConnectionError;
@@ -67,16 +68,17 @@ pub fn is_kept(status: &TransactionManagerStatus) -> bool
 }
 
 /// Does a deed on the connection at a place, where there is one.
-pub fn act_in<C: Connection>(
+pub fn act_in<C: R2D2Connection>(
     place: &mut Option<C>,
+    queries: &Queries<'_>,
     deed: &Deed<'_>,
 ) -> Option<Result<Reply, AllocError>>
-    ensures { ActsIn C.is_honest deed.now (option_map C.view place.old)
+    ensures { ActsIn C.is_honest queries.now deed.now (option_map C.view place.old)
         (option_map C.view place.new) result }
 {
     match place {
         None => None,
-        Some(connection) => Some(act(connection, deed)),
+        Some(connection) => Some(act(connection, queries, deed)),
     }
 }
 

@@ -4,6 +4,7 @@ ghost use Rattle.std.specs.VecDeque.{deque_len, deque_capacity};
 
 use crate::calls::entry_on;
 use crate::places::{act_in, entry_without, give_back, is_kept, unopened};
+use crate::queries::Queries;
 use conn_drivers::{Establish, MultiConnection};
 use conn_manager::{Connection, NoInstrumentation};
 use conn_model::Text;
@@ -14,10 +15,10 @@ use conn_server::{Connector, Dialect};
 use std::alloc::{AllocError, Global};
 use std::collections::VecDeque;
 
-/// The slots of the pool that aren't handed out, front first, the connections that are, each at the place of its number, and the
-/// open blocks.
+/// The slots of the pool that aren't handed out, front first, the connections that are, each at the place of its number, the
+/// open blocks, and the queries that commands name.
 #[derive(Drop)]
-pub struct Session<C> {
+pub struct Session<'s, C> {
     alloc: Global,
     dialect: Dialect,
     url: Text,
@@ -25,11 +26,12 @@ pub struct Session<C> {
     slots: VecDeque<Option<C>>,
     out: Vec<Option<C>>,
     blocks: Blocks,
+    queries: Queries<'s>,
     ghost in_pool: { deque_len slots ≤ size },
     ghost capacity: { size ≤ deque_capacity slots },
 }
 
-impl<C: MultiConnection + Connection<Handler = NoInstrumentation> + Drop> Session<C> {
+impl<'s, C: MultiConnection + Connection<Handler = NoInstrumentation> + Drop> Session<'s, C> {
     ghost use Rattle.std.specs.Prelude.{◌≡◌, ◌<◌, Ok, None, Some, length, vec_len, vec_capacity, IfOk};
     ghost use Rattle.std.specs.Option.{option_map};
     ghost use Rattle.conn_reading.specs.Seats.{at_number};
@@ -39,9 +41,14 @@ impl<C: MultiConnection + Connection<Handler = NoInstrumentation> + Drop> Sessio
     ghost use Rattle.conn_session.specs.Transfers.{TakesSlot, gives_slot, in_front, puts_out, adds_out, fills_places};
     ghost use Rattle.conn_session.specs.Steps.{entry_at, AnswersOn, AnswersVerb, KeepsAll, RunsAll, Steps, Closes};
 
-    /// A pool of one empty slot, whose connections are opened so.
-    pub fn new(alloc: Global, dialect: Dialect, url: Text) -> Result<Session<C>, AllocError>
-        ensures { IfOk result (λ s. pool_of C.view s ≡ new_pool dialect url) }
+    /// A pool of one empty slot, whose connections are opened so, for commands that name these queries.
+    pub fn new(
+        alloc: Global,
+        dialect: Dialect,
+        url: Text,
+        queries: Queries<'s>,
+    ) -> Result<Session<'s, C>, AllocError>
+        ensures { IfOk result (λ s. pool_of C.view s ≡ new_pool dialect url queries.entry) }
     {
         let mut slots = VecDeque::with_capacity(alloc, 1)?;
         slots.push_back_reserved(None);
@@ -53,6 +60,7 @@ impl<C: MultiConnection + Connection<Handler = NoInstrumentation> + Drop> Sessio
             slots,
             out: Vec::new(alloc),
             blocks: Blocks::new(alloc),
+            queries,
         })
     }
 
@@ -205,7 +213,7 @@ impl<C: MultiConnection + Connection<Handler = NoInstrumentation> + Drop> Sessio
     {
         let place = n as usize;
         if place < self.out.len() {
-            if let Some(result) = act_in(&mut self.out[place], deed) {
+            if let Some(result) = act_in(&mut self.out[place], &self.queries, deed) {
                 return result;
             }
         }
@@ -305,7 +313,8 @@ impl<C: MultiConnection + Connection<Handler = NoInstrumentation> + Drop> Sessio
     /// Gives every server back.
     pub fn close<K: Connector<S = C::S>>(self, connector: &mut K)
         requires { Invariant (world_of C.view self (K.held connector.old)) }
-        ensures { Closes (world_of C.view self (K.held connector.old)) (K.held connector.new) }
+        ensures { let k = K.held connector.old in
+            Closes (world_of C.view self.entry k) (K.held connector.new) }
     {
         let Session {
             alloc: _,
@@ -315,6 +324,7 @@ impl<C: MultiConnection + Connection<Handler = NoInstrumentation> + Drop> Sessio
             mut slots,
             mut out,
             blocks: _,
+            queries: _,
         } = self;
         while let Some(place) = out.pop() {
             give_back(place, connector);

@@ -6,6 +6,7 @@ ghost use Rattle.conn_server.specs.Connected.{writes_by, count_writes, write_at}
 ghost use Rattle.conn_session.specs.Accounts.{AllBack, servers_of};
 ghost use Rattle.conn_session.specs.Commands.{IsParsed, RunsScript, Transcribes, Sessions};
 
+use crate::queries::Queries;
 use crate::session::Session;
 use conn_drivers::{AnyConnection, MultiConnection};
 use conn_manager::{Connection, NoInstrumentation};
@@ -76,7 +77,8 @@ fn run_commands<
     ensures armed { (K.held connector.new).armed ≡ (K.held connector.old).armed }
 {
     let url = script.url.copy(alloc)?;
-    let mut session: Session<C> = Session::new(alloc, script.dialect, url)?;
+    let queries = Queries::new(alloc, script.queries.as_slice())?;
+    let mut session: Session<C> = Session::new(alloc, script.dialect, url, queries)?;
     let entries = session.run_all(script.commands.as_slice(), connector);
     session.close(connector);
     entries

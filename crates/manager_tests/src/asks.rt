@@ -14,7 +14,7 @@ pub fn connect<H: Instrumentation + Drop>(
 ) -> Result<Option<RawConnection<ScriptedServer, H>>, AllocError> {
     let target = Target::Url(Text::new(alloc, ":memory:")?);
     Ok(match connector.connect(alloc, dialect, &target) {
-        Ok(server) => Some(RawConnection::new(Wire::new(server), handler)),
+        Ok(server) => Some(RawConnection::new(alloc, Wire::new(server), handler)),
         Err(_) => None,
     })
 }

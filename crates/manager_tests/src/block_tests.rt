@@ -270,7 +270,7 @@ fn steps_account(
     steps: &[Step<'_>],
 ) -> Result<String, Fail> {
     let (connector, server) = open(alloc, dialect, refused)?;
-    let mut conn = RawConnection::new(Wire::new(server), NoInstrumentation);
+    let mut conn = RawConnection::new(alloc, Wire::new(server), NoInstrumentation);
     let mut account = String::new(alloc);
     for step in steps {
         step.made(&mut conn, &mut account)?;
@@ -693,7 +693,7 @@ fn insert_unpaid(conn: &mut Conn) -> Result<(), Fault> {
 /// What a transaction answers whose closure ends in an error of one's own, where this item is refused.
 fn unpaid(alloc: Global, item: u64, is_test: bool) -> Result<Result<(), Fault>, Fail> {
     let (_, server) = open(alloc, Dialect::Sqlite, &[(item, STAY)])?;
-    let mut conn = RawConnection::new(Wire::new(server), NoInstrumentation);
+    let mut conn = RawConnection::new(alloc, Wire::new(server), NoInstrumentation);
     let answer = if is_test {
         conn.test_transaction(insert_unpaid)
     } else {

@@ -18,6 +18,11 @@ fn connect(
     asks::connect(alloc, &mut connector, Dialect::Sqlite, NoInstrumentation)
 }
 
+/// The server of a connection that is done with.
+fn server_of(conn: RawConnection<ScriptedServer, NoInstrumentation>) -> ScriptedServer {
+    conn.wire.server
+}
+
 #[test]
 fn the_log_has_the_texts_of_the_manager(rt: HostRuntime) -> Result<(), Fail> {
     let mut conn = connect(rt.alloc())?.ok_or("no server")?;
@@ -32,7 +37,7 @@ fn the_log_has_the_texts_of_the_manager(rt: HostRuntime) -> Result<(), Fail> {
     for (ask, _) in calls {
         assert!(rt; ask.make(&mut conn).is_ok());
     }
-    let server = conn.wire.server;
+    let server = server_of(conn);
     for (place, (_, text)) in calls.iter().enumerate() {
         let item = server.item(rt.alloc(), place as u64)?.ok_or("no item")?;
         assert_eq!(rt; item.text.as_str(), *text);
@@ -66,7 +71,7 @@ fn a_transaction_may_begin_by_a_text_of_ones_own(rt: HostRuntime) -> Result<(), 
     assert!(rt; matches!(conn.status().transaction_depth(), Ok(Some(1))));
     let again = AnsiTransactionManager::begin_transaction_sql(&mut conn, "BEGIN IMMEDIATE");
     assert!(rt; matches!(again, Err(Error::AlreadyInTransaction)));
-    let server = conn.wire.server;
+    let server = server_of(conn);
     let item = server.item(rt.alloc(), 0)?.ok_or("no item")?;
     assert_eq!(rt; item.text.as_str(), "BEGIN IMMEDIATE");
     assert_eq!(rt; server.sent(), 1);

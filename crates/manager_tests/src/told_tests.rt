@@ -451,7 +451,7 @@ fn tracked(
 ) -> Result<String, AllocError> {
     let mut server = TellingServer::new(dialect);
     server.next = next;
-    let mut conn = RawConnection::new(Wire::new(server), NoInstrumentation);
+    let mut conn = RawConnection::new(alloc, Wire::new(server), NoInstrumentation);
     conn.set_status(before);
     let mut words = String::new(alloc);
     match ask.make(&mut conn) {

@@ -6,7 +6,7 @@ returns g c = inr (record {
   before = c.begin.new.conn;
   after = c.f-answer.new.arg2;
   reply = c.rollback.result;
-  begins = c.in_ok-begin.ensures.tells;
+  begins = (c.in_ok-begin.ensures.tells, c.in_ok-begin.ensures.cache);
   calls = record { shown = _; shows = refl; left = _; met = c.f-answer.ensures; leaves = refl };
-  closes = c.rollback.ensures.tells;
+  closes = (c.rollback.ensures.tells, c.rollback.ensures.cache);
 })

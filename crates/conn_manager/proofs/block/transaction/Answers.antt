@@ -7,9 +7,9 @@ returns-in_ok-commit-in-Ok g c = inr (record {
   before = c.begin.new.conn;
   after = c.f.new.arg2;
   answer = Ok c.in-Ok.v;
-  begins = c.in_ok-begin.ensures.tells;
+  begins = (c.in_ok-begin.ensures.tells, c.in_ok-begin.ensures.cache);
   calls = record { shown = _; shows = refl; left = _; met = c.in-Ok.ensures; leaves = refl };
-  closes = (Ok tt, c.in_ok-commit-in-Ok.ensures.tells, refl);
+  closes = (Ok tt, (c.in_ok-commit-in-Ok.ensures.tells, c.in_ok-commit-in-Ok.ensures.cache), refl);
 })
 
 -- the closure answered Ok, and the commit an error
@@ -18,9 +18,9 @@ returns-in_err-commit-in-Ok g c = inr (record {
   before = c.begin.new.conn;
   after = c.f.new.arg2;
   answer = Ok c.in-Ok.v;
-  begins = c.in_ok-begin.ensures.tells;
+  begins = (c.in_ok-begin.ensures.tells, c.in_ok-begin.ensures.cache);
   calls = record { shown = _; shows = refl; left = _; met = c.in-Ok.ensures; leaves = refl };
-  closes = (Err c.in_err-commit-in-Ok.field-0.0, c.in_err-commit-in-Ok.ensures.tells, search rules);
+  closes = (Err c.in_err-commit-in-Ok.field-0.0, (c.in_err-commit-in-Ok.ensures.tells, c.in_err-commit-in-Ok.ensures.cache), search rules);
 })
 
 -- the closure answered an error, and the rollback Ok
@@ -29,9 +29,9 @@ returns-in-Ok-rollback g c = inr (record {
   before = c.begin.new.conn;
   after = c.f.new.arg2;
   answer = Err c.in-Err.e;
-  begins = c.in_ok-begin.ensures.tells;
+  begins = (c.in_ok-begin.ensures.tells, c.in_ok-begin.ensures.cache);
   calls = record { shown = _; shows = refl; left = _; met = c.in-Err.ensures; leaves = refl };
-  closes = (Ok tt, c.in-Ok-rollback.ensures.tells, refl);
+  closes = (Ok tt, (c.in-Ok-rollback.ensures.tells, c.in-Ok-rollback.ensures.cache), refl);
 })
 
 -- the closure answered an error, and the rollback found the manager in error
@@ -40,9 +40,9 @@ returns-then-is_broken_error g c = inr (record {
   before = c.begin.new.conn;
   after = c.f.new.arg2;
   answer = Err c.in-Err.e;
-  begins = c.in_ok-begin.ensures.tells;
+  begins = (c.in_ok-begin.ensures.tells, c.in_ok-begin.ensures.cache);
   calls = record { shown = _; shows = refl; left = _; met = c.in-Err.ensures; leaves = refl };
-  closes = (Err c.in-Err-rollback.r, c.in-Err-rollback.ensures.tells, rw (sym c.if-is_broken_error.ensures) refl);
+  closes = (Err c.in-Err-rollback.r, (c.in-Err-rollback.ensures.tells, c.in-Err-rollback.ensures.cache), rw (sym c.if-is_broken_error.ensures) refl);
 })
 
 -- the closure answered an error, and the rollback another
@@ -51,7 +51,7 @@ returns-else-is_broken_error g c = inr (record {
   before = c.begin.new.conn;
   after = c.f.new.arg2;
   answer = Err c.in-Err.e;
-  begins = c.in_ok-begin.ensures.tells;
+  begins = (c.in_ok-begin.ensures.tells, c.in_ok-begin.ensures.cache);
   calls = record { shown = _; shows = refl; left = _; met = c.in-Err.ensures; leaves = refl };
-  closes = (Err c.in-Err-rollback.r, c.in-Err-rollback.ensures.tells, rw (sym c.if-is_broken_error.ensures) c.from.ensures);
+  closes = (Err c.in-Err-rollback.r, (c.in-Err-rollback.ensures.tells, c.in-Err-rollback.ensures.cache), rw (sym c.if-is_broken_error.ensures) c.from.ensures);
 })

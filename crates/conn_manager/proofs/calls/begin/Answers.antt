@@ -16,7 +16,7 @@ returns-in_ok-reserve-in-None-clause-tells g c =
     let is : old.status ≡ valid None = search rules in
     inr (goes_as C.is_honest (λ d s. Tell (BeginTransaction 1) (begin_with d (codes "BEGIN") s)) begin_process (valid None) old new c.send_begin.result is (λ d. refl)
     (room_first C.is_honest (λ d s. Tell (BeginTransaction 1) (begin_with d (codes "BEGIN") s)) old room new c.send_begin.result c.reserve.ensures.reserved.keeps c.reserve.ensures.same
-    (event_first C.is_honest (BeginTransaction 1) (λ d. begin_with d (codes "BEGIN")) room told new c.send_begin.result c.event.ensures c.send_begin.ensures)))
+    (event_first C.is_honest (BeginTransaction 1) (λ d. begin_with d (codes "BEGIN")) room told new c.send_begin.result c.event.ensures c.send_begin.ensures.tells)))
 
 pub returns-in_ok-reserve-in-Some-clause-tells : goal.returns-in_ok-reserve-in-Some-clause-tells
 returns-in_ok-reserve-in-Some-clause-tells g c =
@@ -34,4 +34,4 @@ returns-in_ok-reserve-in-Some-clause-tells g c =
     let is_text : text ≡ savepoint_text depth = c.as_str.ensures.value ∙ c.savepoint_text.ensures.text in
     inr (goes_as C.is_honest (λ d s. Tell (BeginTransaction (depth + 1)) (begin_with d text s)) begin_process (valid (Some t)) old new reply is (λ d. rw (low, is_text) refl)
     (room_first C.is_honest (λ d s. Tell (BeginTransaction (depth + 1)) (begin_with d text s)) old room new reply c.reserve-in-Some.ensures.reserved.keeps c.reserve-in-Some.ensures.same
-    (event_first C.is_honest (BeginTransaction (depth + 1)) (λ d. begin_with d text) room told new reply c.event-in-Some.ensures c.send_begin-in-Some.ensures)))
+    (event_first C.is_honest (BeginTransaction (depth + 1)) (λ d. begin_with d text) room told new reply c.event-in-Some.ensures c.send_begin-in-Some.ensures.tells)))

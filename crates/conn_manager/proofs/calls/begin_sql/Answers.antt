@@ -17,4 +17,4 @@ returns-in_ok-reserve-in-None-clause-tells g c =
     let is : old.status ≡ valid None = search rules in
     inr (goes_as C.is_honest (λ d s. Tell (BeginTransaction 1) (begin_by d sql s)) (λ d. begin_sql_process d sql) (valid None) old new c.send_begin_sql.result is (λ d. refl)
     (room_first C.is_honest (λ d s. Tell (BeginTransaction 1) (begin_by d sql s)) old room new c.send_begin_sql.result c.reserve.ensures.reserved.keeps c.reserve.ensures.same
-    (event_first C.is_honest (BeginTransaction 1) (λ d. begin_by d sql) room told new c.send_begin_sql.result c.event.ensures c.send_begin_sql.ensures)))
+    (event_first C.is_honest (BeginTransaction 1) (λ d. begin_by d sql) room told new c.send_begin_sql.result c.event.ensures c.send_begin_sql.ensures.tells)))

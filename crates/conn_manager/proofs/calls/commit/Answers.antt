@@ -13,4 +13,4 @@ returns-clause-tells g c =
     let new = C.view c.send_commit.new.conn in
     let is : old.status ≡ valid (Some t) = search rules in
     inr (goes_as C.is_honest (λ d s. commit_in d s (Some t)) commit_process (valid (Some t)) old new c.send_commit.result is (λ d. refl)
-    (room_first C.is_honest (λ d s. commit_in d s (Some t)) old room new c.send_commit.result c.reserve.ensures.reserved.keeps c.reserve.ensures.same c.send_commit.ensures))
+    (room_first C.is_honest (λ d s. commit_in d s (Some t)) old room new c.send_commit.result c.reserve.ensures.reserved.keeps c.reserve.ensures.same c.send_commit.ensures.tells))

@@ -13,4 +13,4 @@ returns-clause-tells g c =
     let new = C.view c.send_rollback.new.conn in
     let is : old.status ≡ valid (Some t) = search rules in
     inr (goes_as C.is_honest (λ d s. rollback_of d s t) rollback_process (valid (Some t)) old new c.send_rollback.result is (λ d. refl)
-    (room_first C.is_honest (λ d s. rollback_of d s t) old room new c.send_rollback.result c.reserve.ensures.reserved.keeps c.reserve.ensures.same c.send_rollback.ensures))
+    (room_first C.is_honest (λ d s. rollback_of d s t) old room new c.send_rollback.result c.reserve.ensures.reserved.keeps c.reserve.ensures.same c.send_rollback.ensures.tells))

@@ -4,8 +4,8 @@ use Rattle.conn_manager.specs.Manages.{begun, done}
 use Rattle.conn_manager.proofs.Steps.{text_first, settles}
 use Rattle.conn_manager.proofs.calls.send_begin.Goals as goal
 
-pub returns : goal.returns
-returns g c =
+pub returns-clause-tells : goal.returns-clause-tells
+returns-clause-tells g c =
     let C = g.C.SimpleConnection in
     let text = c.args.text.now in
     let reply = c.send_own-reply.result in

@@ -5,8 +5,8 @@ use Rattle.conn_manager.specs.Manages.{ask_text, done, rolled_back, rollback_tex
 use Rattle.conn_manager.proofs.Steps.{event_first, text_first, settles}
 use Rattle.conn_manager.proofs.calls.send_rollback.Goals as goal
 
-pub returns : goal.returns
-returns g c =
+pub returns-clause-tells : goal.returns-clause-tells
+returns-clause-tells g c =
     let C = g.C.SimpleConnection in
     let t = c.args.t in
     let words = rollback_text t.transaction_depth in

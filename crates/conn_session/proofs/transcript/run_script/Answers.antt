@@ -6,7 +6,7 @@ use Rattle.conn_session.specs.Commands.{IsAnswered, RunsScript}
 use Rattle.conn_session.specs.Steps.{IsCausedBy}
 use Rattle.conn_session.specs.Worlds.{refusals}
 use Rattle.conn_session.proofs.Kept.{each_told}
-use Rattle.conn_session.proofs.Borne.{are_borne_out}
+use Rattle.conn_session.proofs.Borne.{are_borne_out, has_own_statements}
 use Rattle.conn_session.proofs.transcript.run_script.Goals as goal
 
 pub returns-clause-transcribes : goal.returns-clause-transcribes
@@ -26,4 +26,5 @@ returns-clause-transcribes g c =
       answered = answered;
       kept = λ honest. each_told script.dialect k g.K.S.Server.is_honest c.in_ok-servers.servers (g.met.K.Connector.opens_honest honest) c.in_ok-servers.ensures (runs.kept honest);
       borne_out = λ honest. are_borne_out script k c.from_vec.result c.requires.parsed (answered honest);
+      statements = λ honest. has_own_statements script k c.from_vec.result c.requires.parsed (answered honest);
     }

@@ -1,7 +1,8 @@
 use Rattle.std.proofs.Common.{◌≡◌, List, [], ◌∷◌, ◌++◌, None, sym, ◌∙◌, arith, subst}
 use Rattle.std.proofs.lemmas.Grind.{common_steps}
-use Rattle.conn_cache.specs.declared.entry.CacheEntry.{CacheEntry}
-use Rattle.conn_cache.specs.Registers.{Cache, HasPlaces, place_from}
+use Rattle.conn_model.specs.declared.cache.CacheEntry.{CacheEntry}
+use Rattle.conn_model.specs.Caches.{Cache}
+use Rattle.conn_cache.specs.Registers.{HasPlaces, place_from}
 use Rattle.conn_cache.proofs.Indexing.{entry_has_key, indexed_more}
 use Rattle.conn_cache.proofs.statement_cache.StatementCache.add.Goals as goal
 

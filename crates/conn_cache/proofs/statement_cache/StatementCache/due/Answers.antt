@@ -2,7 +2,8 @@ use Rattle.std.proofs.Common.{◌≡◌, ◌<◌, Bool, length, arith, ap, sym, 
 use Rattle.std.specs.Prelude.{if◌then◌else◌}
 use Rattle.std.proofs.lemmas.Option.{slice_get_read, slice_get_within}
 use Rattle.conn_cache.specs.declared.entry.Due.TheVariants.{Found, Clash}
-use Rattle.conn_cache.specs.Registers.{Cache, due_at, place_from}
+use Rattle.conn_model.specs.Caches.{Cache}
+use Rattle.conn_cache.specs.Registers.{due_at, place_from}
 use Rattle.conn_cache.proofs.Indexing.{found_due, found_entry}
 use Rattle.conn_cache.proofs.statement_cache.StatementCache.due.Goals as goal
 
@@ -21,7 +22,7 @@ returns-in-Some-clause-due g c =
     let found = found_entry c.args.key.now place es c.self.inside.table c.self.invariant.1 (cc) in
     let at = slice_get_read es (length es) place c.index.result.now refl (slice_get_within es place found.entry found.stands) c.index.ensures in
     subst (λ (v : Cache g.row.T.Denot). Found place ≡ due_at q c.args.types.now v.register.counter (place_from c.args.key.now 0 v.register.entries)) c.self.view_is
-    (sym (found_due q c.args.types.now c.self.inside.counter c.args.key.now place es c.index.result.now found at c.is_of.result c.is_of.ensures ∙ ap (λ (b : Bool). if b then Found place else Clash) c.if-is_of.true))
+    (sym (found_due q c.args.types.now c.self.inside.counter c.args.key.now place es c.index.result.now found at c.is_entry_of.result c.is_entry_of.ensures ∙ ap (λ (b : Bool). if b then Found place else Clash) c.if-is_entry_of.true))
 
 pub returns-in-Some-clause-within : goal.returns-in-Some-clause-within
 returns-in-Some-clause-within g c =
@@ -38,4 +39,4 @@ returns-in-Some-2-clause-due g c =
     let found = found_entry c.args.key.now place es c.self.inside.table c.self.invariant.1 (cc) in
     let at = slice_get_read es (length es) place c.index.result.now refl (slice_get_within es place found.entry found.stands) c.index.ensures in
     subst (λ (v : Cache g.row.T.Denot). Clash ≡ due_at q c.args.types.now v.register.counter (place_from c.args.key.now 0 v.register.entries)) c.self.view_is
-    (sym (found_due q c.args.types.now c.self.inside.counter c.args.key.now place es c.index.result.now found at c.is_of.result c.is_of.ensures ∙ ap (λ (b : Bool). if b then Found place else Clash) c.if-is_of.false))
+    (sym (found_due q c.args.types.now c.self.inside.counter c.args.key.now place es c.index.result.now found at c.is_entry_of.result c.is_entry_of.ensures ∙ ap (λ (b : Bool). if b then Found place else Clash) c.if-is_entry_of.false))

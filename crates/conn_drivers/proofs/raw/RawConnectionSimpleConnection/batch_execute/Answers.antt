@@ -6,6 +6,7 @@ use Rattle.conn_drivers.proofs.raw.RawConnectionSimpleConnection.batch_execute.G
 
 pub returns-clause-tells : goal.returns-clause-tells
 returns-clause-tells g c =
-    let view = shows g.S.Server.seen g.H.Instrumentation.told in
-    inr (room_first g.S.Server.is_honest (λ d. send_process d c.args.query.now) (view c.args.self.now) (view c.reserve.new.self) (view c.send.new.self) c.send.result
+    let seen = g.S.Server.seen in
+    let told = g.H.Instrumentation.told in
+    inr (room_first g.S.Server.is_honest (λ d. send_process d c.args.query.now) (shows seen told c.args.self.now) (shows seen told c.reserve.new.self) (shows seen told c.send.new.self) c.send.result
     c.reserve.ensures.reserved.keeps c.reserve.ensures.same c.send.ensures.tells)

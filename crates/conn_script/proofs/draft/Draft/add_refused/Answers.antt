@@ -9,6 +9,9 @@ turned : (a b : ℕ × ℕ) → is_at (compare_items a) b ≡ is_at (compare_ite
 turned a b = grind arith
 
 pub invariant_of-self-in-Ok : goal.invariant_of-self-in-Ok
-invariant_of-self-in-Ok c =
-    rw (c.in_ok-push.ensures.ok, c.plan_line.ensures)
-    (keys_more compare_items refused_key c.self.inside.refused.keys c.insert.new.self.keys c.self.inside.script.plan _ (c.args.r.server, c.args.r.item) turned c.self.invariant refl c.in-Ok.ensures.updates.0)
+invariant_of-self-in-Ok c = (
+  rw (c.in_ok-push.ensures.ok, c.plan_line.ensures)
+      (keys_more compare_items refused_key c.self.inside.refused.keys c.insert.new.self.keys c.self.inside.script.plan _ (c.args.r.server, c.args.r.item) turned c.self.invariant.0 refl c.in-Ok.ensures.updates.0),
+  c.self.invariant.1,
+  c.self.invariant.2,
+)

@@ -24,6 +24,7 @@ returns-in-Ok g c =
     subst (λ (p : Pool). Steps honest c.args.line Get (in_front None w) (record { pool = p; connector = k }) (Ok c.entry_on-entry.result)) (sym c.add_out.ensures)
     (get_opened honest g.C.SimpleConnection.is_honest (λ h. g.met.C.Establish.same_honesty ∙ g.met.K.Connector.opens_honest h) c.args.line w c.requires.holds k (view c.in-Ok.connection) c.entry_on-entry.result
     (subst (λ (url : List ℕ). SetsUp honest g.C.SimpleConnection.is_honest w.pool.dialect url w.connector k (view c.in-Ok.connection).seen (done (Ok tt) (view c.in-Ok.connection).status)) c.as_str-url.ensures c.in-Ok.ensures.set_up)
+    c.in-Ok.ensures.cache
     c.entry_on-entry.ensures)
 
 pub returns-in-Err : goal.returns-in-Err

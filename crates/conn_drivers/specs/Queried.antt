@@ -1,0 +1,118 @@
+-- What a query does on a wire, and what its connection does.
+use Rattle.std.specs.Prelude.{◌≡◌, ◌⊎◌, ℕ, ◌+◌, ◌≤◌, Bool, false, ⊤, List, [], ◌∷◌, map, Some, Result, Ok, Err}
+use Rattle.conn_result.specs.declared.error.Error.{Error}
+use Rattle.conn_result.specs.declared.error.Error.TheVariants.{OutOfMemory}
+use Rattle.conn_cache.specs.Faults.{query_fault}
+use Rattle.conn_model.specs.Caches.{Known, Cache}
+use Rattle.conn_model.specs.declared.cache.CacheSize.{CacheSize}
+use Rattle.conn_cache.specs.QueryProcesses.{Asked, asked, counted, finishes, resized, runs, runs_due, types_for, unless_fault}
+use Rattle.conn_cache.specs.QueryViews.{QueryView}
+use Rattle.conn_cache.specs.Registers.{due}
+use Rattle.conn_cache.specs.declared.statement_cache.MaybeCached.{MaybeCached}
+use Rattle.conn_cache.specs.declared.statement_cache.MaybeCached.TheVariants.{CannotCache, Cached}
+use Rattle.conn_manager.specs.Manages.{IsUntouched}
+use Rattle.conn_manager.specs.Statuses.{Status}
+use Rattle.conn_manager.specs.Views.{KeepsCache, View}
+use Rattle.conn_model.specs.Acts.{Tells}
+use Rattle.conn_model.specs.Events.{Heeded, with_events, StartQuery, FinishQuery}
+use Rattle.conn_model.specs.Process.{Process}
+use Rattle.conn_model.specs.Seen.{Seen, Opened}
+use Rattle.conn_model.specs.Statements.{source_text, without_open}
+use Rattle.conn_model.specs.declared.item.Dialect.{Dialect}
+use Rattle.conn_model.specs.declared.item.Dialect.TheVariants.{Pg, Mysql, Sqlite}
+use Rattle.conn_model.specs.declared.reply.RunSource.TheVariants.{Prepared}
+use Rattle.conn_drivers.specs.Wires.{OpensStatement}
+use Rattle.conn_drivers.specs.declared.statement.Statement.{Statement}
+
+-- the cache as queries know it
+abbrev pub known_of : Cache Statement → Known
+known_of c = record { register = c.register; statements = map (λ (t : Statement). t.columns) c.statements }
+
+-- where the rest acts and tells from here on, the whole did from the start
+pub record Goes {A : Type 0} (honest : Bool) (whole rest : Process A) (old mid : Seen) (before now : Heeded) : Type 0 where
+  pub then : (new : Seen) (after : Heeded) (a : A) → Tells honest rest mid new now after a → Tells honest whole old new before after a
+
+-- what is left of a query after its look-up: the run, or the end with its error
+abbrev pub looked_up : {T : Type 0} → Dialect → QueryView → Result T Error → Status → Known → Process (Asked ℕ)
+looked_up d q (Ok m) s c = runs false d q (counted q) s c
+looked_up d q (Err e) s c = finishes q.sql (Err e) s c
+
+-- for want of memory nothing was done
+pub record DoesNothing {W I A : Type 0} (w w' : W) (c c' : Cache Statement) (i i' : I) (result : Result A Error) : Type 0 where
+  pub is : result ≡ Err OutOfMemory
+  pub wire : w' ≡ w
+  pub cache : c' ≡ c
+  pub handler : i' ≡ i
+
+-- a query on a wire with its cache and its handler, before and after, from the look-up on
+module _ {W I : Type 0} (honest : Bool) (q : QueryView) (seen : W → Seen) (status : W → Status) (told : I → Heeded) (w w' : W) (c c' : Cache Statement) (i i' : I) where
+  -- this is left of it
+  abbrev pub LeavesOf : Process (Asked ℕ) → Type 0
+  LeavesOf rest = Goes honest (runs_due false (seen w).dialect q (counted q) (due q (types_for (seen w).dialect q) c.register) (status w) (known_of c)) rest (seen w) (seen w') (told i) (told i')
+
+  -- it is looked up
+  abbrev pub Readies : {T : Type 0} → Result T Error → Type 0
+  Readies result = DoesNothing w w' c c' i i' result ⊎ LeavesOf (looked_up (seen w).dialect q result (status w') (known_of c'))
+
+  -- it is answered
+  abbrev pub Queries : Result ℕ Error → Type 0
+  Queries result = DoesNothing w w' c c' i i' result ⊎ LeavesOf (finishes q.sql result (status w') (known_of c'))
+
+-- a statement for one run is the newest that is open; on PostgreSQL none was opened
+abbrev pub OpensPlain : Dialect → List ℕ → List Opened → List Opened → Statement → Type 0
+OpensPlain Pg sql old new t = new ≡ old
+OpensPlain Mysql sql old new t = OpensStatement sql old new t.number
+OpensPlain Sqlite sql old new t = OpensStatement sql old new t.number
+
+-- a look-up that keeps no statement opens one for this run, and leaves the cache
+abbrev pub KeepsNone : Dialect → List ℕ → List Opened → List Opened → Cache Statement → Cache Statement → Result (MaybeCached Statement) Error → Type 0
+KeepsNone d sql old new c c' (Ok (CannotCache t)) = OpensPlain d sql old new t × (c' ≡ c)
+KeepsNone d sql old new c c' (Ok (Cached place)) = ⊤
+KeepsNone d sql old new c c' (Err e) = ⊤
+
+-- a statement for one run can be run; on PostgreSQL its text is
+abbrev pub CanRun : Dialect → List Opened → Statement → List ℕ → Type 0
+CanRun Pg os t sql = ⊤
+CanRun Mysql os t sql = source_text os (Prepared t.number) ≡ Some sql
+CanRun Sqlite os t sql = source_text os (Prepared t.number) ≡ Some sql
+
+-- the open statements once it is closed
+abbrev pub shut_in : Dialect → List Opened → Statement → List Opened
+shut_in Pg os t = os
+shut_in Mysql os t = without_open t.number os
+shut_in Sqlite os t = without_open t.number os
+
+-- a run's query is answered, whatever is known and whatever was told before
+abbrev pub RunsOut : Bool → QueryView → Seen → Seen → Status → Status → Result ℕ Error → Type 0
+RunsOut honest q old new s s1 result = (d : Dialect) → d ≡ old.dialect → (k : Known) (told : Heeded) → Goes honest (runs false d q (counted q) s k) (finishes q.sql result s1 k) old new told told
+
+-- a query used up no more room than this, on the same server
+pub record Spends (items bytes : ℕ) (old new : Seen) : Type 0 where
+  pub dialect : new.dialect ≡ old.dialect
+  pub item_fall : old.item_room ≤ new.item_room + items
+  pub byte_fall : old.byte_room ≤ new.byte_room + bytes
+
+-- nothing was done for want of memory, and the handler was told this
+pub record IsIdle {A : Type 0} (old new : View) (reply : Result A Error) (heeded : Heeded) : Type 0 where
+  pub is : reply ≡ Err OutOfMemory
+  pub untouched : IsUntouched old.seen new.seen old.status new.status
+  pub cache : KeepsCache old new
+  pub heeds : new.heeded ≡ heeded
+
+-- the two events of a query for which memory was wanting
+abbrev pub idle_events : Heeded → List ℕ → Heeded
+idle_events heeded sql = with_events heeded (StartQuery sql ∷ FinishQuery sql (Some OutOfMemory) ∷ [])
+
+-- a query tells and acts by its process; or memory was wanting, and its two events alone happened
+abbrev pub QueriesFrom : {A : Type 0} → Bool → QueryView → (Dialect → Status → Known → Process (Asked A)) → View → View → Result A Error → Type 0
+QueriesFrom honest q process old new reply =
+    IsIdle old new reply (idle_events old.heeded q.sql) ⊎ Tells honest (process old.seen.dialect old.status old.cache) old.seen new.seen old.heeded new.heeded (asked reply new.status new.cache)
+
+-- what a query does between its two events
+abbrev pub QueriesBetween : Bool → QueryView → View → View → Result ℕ Error → Type 0
+QueriesBetween honest q old new reply =
+    IsIdle old new reply old.heeded ⊎ Goes honest (unless_fault false old.seen.dialect q (counted q) (query_fault old.seen.dialect q) old.status old.cache) (finishes q.sql reply new.status new.cache) old.seen new.seen old.heeded new.heeded
+
+-- the cache has this size now, statements may have been closed for it, and nothing else happened
+abbrev pub SetsCacheSize : CacheSize → View → View → Type 0
+SetsCacheSize size old new = new ≡ record old { seen = record old.seen { open_statements = new.seen.open_statements }; cache = resized size old.cache }
