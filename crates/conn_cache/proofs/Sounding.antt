@@ -13,7 +13,7 @@ use Rattle.conn_cache.specs.declared.preparer.PrepareForCache.{PrepareForCache}
 use Rattle.conn_cache.specs.declared.preparer.PrepareForCache.TheVariants.{Yes, No}
 use Rattle.conn_cache.specs.declared.statement_cache.MaybeCached.{MaybeCached}
 use Rattle.conn_cache.specs.declared.statement_cache.MaybeCached.TheVariants.{Cached}
-use Rattle.conn_cache.specs.KeyLaws.{text_is}
+use Rattle.conn_model.specs.TextLaws.{text_is}
 use Rattle.conn_cache.specs.Keys.{key_of, same_types}
 use Rattle.conn_cache.specs.Lookups.{AnswersOnly, LooksUp, LooksUpBy, new_answer, plain_answer, statements_after}
 use Rattle.conn_cache.specs.Preparers.{IsApart, IsFresh, IsServed, StandStill}

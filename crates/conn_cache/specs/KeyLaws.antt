@@ -1,28 +1,20 @@
 -- Keys that are one can't be told apart, and are hashed alike.
-use Rattle.std.specs.Prelude.{◌≡◌, ℕ, true, ◌&&◌, List, refl}
+use Rattle.std.specs.Prelude.{◌≡◌, true, ◌&&◌, refl}
 use Rattle.std.specs.Cmp.{IsEquivalence, first_so, second_so, nat_eq_equiv, unsigned_Decides}
-use Rattle.std.specs.Cmp.Lexicographic.{lists_equiv, nat_list_eq_equiv, pointwise_decides}
+use Rattle.std.specs.Cmp.Lexicographic.{lists_equiv}
 use Rattle.std.specs.Hash as fed
 use mathlib.Core.Bool.{true≢false}
 use mathlib.Core.Path.{ap, sym}
 use Rattle.conn_model.specs.Classes.{same_text}
+use Rattle.conn_model.specs.TextLaws.{text_equiv, text_is}
 use Rattle.conn_model.specs.contracts.value.BindTypeEq.TheImpl.Laws.{laws-law}
 use Rattle.conn_cache.specs.declared.key.StatementCacheKey.{StatementCacheKey}
 use Rattle.conn_cache.specs.declared.key.StatementCacheKey.TheVariants.{Id, Sql}
 use Rattle.conn_cache.specs.Keys.{key_writes, same_key, same_types}
 
-text_equiv : IsEquivalence same_text
-unfolding same_text
-text_equiv = nat_list_eq_equiv
-
 types_equiv : IsEquivalence same_types
 unfolding same_types
 types_equiv = lists_equiv laws-law
-
--- a text that is the same is this one
-pub text_is : (s t : List ℕ) → same_text s t ≡ true → s ≡ t
-unfolding same_text
-text_is s t h = (pointwise_decides unsigned_Decides s t).0 h
 
 key_refl : (x : StatementCacheKey) → same_key x x ≡ true
 key_refl (Id a) = nat_eq_equiv.refl a

@@ -9,3 +9,4 @@ pub mod Soundness
 pub mod Turns
 pub mod Faults
 pub mod QueryProcesses
+pub mod LoadProcesses

@@ -6,8 +6,8 @@ ghost use Rattle.conn_cache.specs.Keys.{same_types};
 ghost use Rattle.conn_cache.specs.Registers.{entry_of, is_entry_of};
 
 use crate::Query;
-use crate::key::{are_same_types, is_same_text};
-use conn_model::{BindType, BindTypes, CacheEntry, Text};
+use crate::key::are_same_types;
+use conn_model::{BindType, BindTypes, CacheEntry, Text, is_same_text};
 use conn_result::QueryResult;
 use std::alloc::Global;
 

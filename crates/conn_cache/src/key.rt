@@ -2,13 +2,12 @@
 ghost use Rattle.std.specs.Prelude.{◌≡◌, None, List, IfOk, IfErr};
 ghost use Rattle.std.specs.Cmp.{partial_equiv_from_equiv};
 ghost use Rattle.conn_result.specs.declared.error.Error.TheVariants.{OutOfMemory};
-ghost use Rattle.conn_model.specs.Classes.{same_text};
 ghost use Rattle.conn_model.specs.declared.value.BindType.{BindType as kind};
 ghost use Rattle.conn_cache.specs.KeyLaws.{key_equiv, writes_alike};
 ghost use Rattle.conn_cache.specs.Keys.{key_of, key_text, key_writes, same_key, same_types};
 
 use crate::Query;
-use conn_model::{BindType, BindTypes, Text};
+use conn_model::{BindType, BindTypes, Text, is_same_text};
 use conn_result::QueryResult;
 use std::alloc::Global;
 use std::hash::{Hash, Hasher};
@@ -20,14 +19,6 @@ pub enum StatementCacheKey {
     Id(u64),
     /// The text of a query without a number, with types of its binds.
     Sql { sql: Text, bind_types: BindTypes },
-}
-
-/// Whether the texts are the same.
-#[tactic(auto, unfolding(conn_model::specs::Classes::same_text))]
-pub fn is_same_text(a: &str, b: &str) -> bool
-    ensures { result ≡ same_text a.now b.now }
-{
-    a == b
 }
 
 /// Whether the types are the same, in the same order.

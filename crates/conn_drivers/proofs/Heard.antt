@@ -6,7 +6,8 @@ use Rattle.conn_model.specs.Acts.{Acts}
 use Rattle.conn_model.specs.Nuls.{nul_fault}
 use Rattle.conn_model.specs.Process.{Heard, plain_heard}
 use Rattle.conn_model.specs.Statements.{Prepares, Runs, find_open, opened_by, prepared_heard, ran_heard, without_open}
-use Rattle.conn_model.specs.Seen.{Seen, Opened, IsHonest}
+use Rattle.conn_model.specs.Armed.{rows_of}
+use Rattle.conn_model.specs.Seen.{Seen, Opened, IsHonest, IsRun, Ran, RunsAre}
 use Rattle.conn_model.specs.Served.{Sends}
 use Rattle.conn_model.specs.declared.item.Call.{Call}
 use Rattle.conn_model.specs.declared.item.Call.TheVariants.{Exec, Prepare, Run}
@@ -18,13 +19,14 @@ use Rattle.conn_model.specs.declared.reply.RunReply.{RunReply}
 use Rattle.conn_model.specs.declared.value.Bind.{Bind}
 use Rattle.conn_model.proofs.Goes.{goes_on, hears, stays, stops}
 use Rattle.conn_model.proofs.Statements.{hears_prepare, hears_run}
-use Rattle.conn_manager.specs.Manages.{Done, HasServerCause, IsRefusal, Reply, ask, bare_process, bare_text, done}
+use Rattle.conn_manager.specs.Manages.{Done, HasServerCause, Reply, ask, bare_process, bare_text, done}
 use Rattle.conn_manager.specs.Statuses.{Status, reply_of, retold}
 use Rattle.conn_model.specs.Process.{Process, Stop}
-use Rattle.conn_result.specs.declared.error.Error.TheVariants.{IntegerConversion, InvalidCString}
-use Rattle.std.specs.Prelude.{◌^◌, if◌then◌else◌, nat_lt}
-use Rattle.conn_cache.specs.QueryProcesses.{affected_count, without_value}
+use Rattle.conn_result.specs.declared.error.Error.TheVariants.{InvalidCString}
+use Rattle.std.specs.Prelude.{drop}
+use Rattle.conn_cache.specs.QueryProcesses.{without_value}
 use Rattle.conn_result.specs.declared.error.Error.{Error}
+use Rattle.conn_drivers.specs.Loading.{BeginsIf}
 use Rattle.conn_drivers.specs.Prepares.{SendsPrepare, count_by, count_heard, name_of, statement_by}
 use Rattle.conn_drivers.specs.Wires.{Hears, HearsBy, OpensStatement}
 use Rattle.conn_drivers.specs.declared.statement.Statement.{Statement}
@@ -103,17 +105,13 @@ heard_count honest old mid new s s1 same honesty text binds ran count runs count
     told (Ok r) t = refl
     told (Err r) t = refl
 
--- a count that doesn't fit is no refusal
-no_refusal : (n : ℕ) → IsRefusal (without_value (affected_count n)) → ⊥
-no_refusal n = elim (nat_lt n (2 ^ 64)) as (λ b. IsRefusal (without_value (if b then Ok n else Err IntegerConversion)) → ⊥) [ true ↦ (λ h. h) | false ↦ (λ h. h) ]
-
 -- a refusal of it was counted
 pub count_cause : (text : List ℕ) (binds : List Bind) (old mid new : Seen) (ran : Result RunReply Refusal) (count : Result ℕ Error) → count ≡ count_by ran → Runs text binds old mid ran → new ≡ mid → HasServerCause old new (without_value count)
 count_cause text binds old mid new ran count is runs same =
     subst (λ (r : Result ℕ Error). HasServerCause old new (without_value r)) (sym is) (subst (λ (x : Seen). HasServerCause old x (without_value (count_by ran))) (sym same) (by_ran ran runs))
   where
     by_ran : (r : Result RunReply Refusal) → Runs text binds old mid r → HasServerCause old mid (without_value (count_by r))
-    by_ran (Ok r) runs = record { later = runs.appends.later; refused = λ h. absurd (no_refusal r.affected h) }
+    by_ran (Ok r) runs = record { later = runs.appends.later; refused = λ h. absurd h }
     by_ran (Err r) runs = record { later = runs.appends.later; refused = λ h. runs.appends.failed }
 
 -- a statement was prepared, and what was told then was read
@@ -130,6 +128,7 @@ sends_prepare honest sql how old mid new s s1 answer result same honesty prepare
       opens = ap (λ (x : Seen). x.open_statements) same ∙ prepares.opens;
       items = subst (λ (x : Seen). old.item_room ≤ x.item_room + 1) (sym same) prepares.appends.items;
       bytes = subst (λ (x : Seen). old.byte_room ≤ x.byte_room + length sql) (sym same) prepares.appends.bytes;
+      given = ap (λ (x : Seen). x.given) (same ∙ prepares.keeps);
     }
   where
     refusal : (a : Result Prepared Refusal) (t : Told) → (prepared_heard a t).refusal ≡ result_err a
@@ -185,3 +184,20 @@ opens_statement text old mid new p result is prepares same =
     let accepted = subst (λ (r : Result Prepared Refusal). Prepares None text old mid r) is prepares in
     let open' : new.open_statements ≡ opened_by text (Ok p) old.open_statements = ap (λ (x : Seen). x.open_statements) same ∙ accepted.opens in
     subst (λ (os : List Opened). OpensStatement text old.open_statements os p.statement) (sym open') (opens_newest text old.open_statements p accepted.fresh)
+
+-- an accepted run has its rows, a refused one asks none
+pub begins_if : (honest : Bool) (text : List ℕ) (binds : List Bind) (old mid new : Seen) (ran : Result RunReply Refusal) (count : Result ℕ Error) → count ≡ count_by ran → Runs text binds old mid ran → new ≡ mid → (honest ≡ true → IsHonest new) → BeginsIf honest text old new count
+begins_if honest text binds old mid new ran count is runs same honesty =
+    subst (λ (r : Result ℕ Error). BeginsIf honest text old new r) (sym is) (by_ran ran runs)
+  where
+    has_rows : (s : Seen) (r : Ran) → s.given ≡ 0 → r.text ≡ text → s.last ≡ Some r → IsHonest s → s.rows ≡ Some (rows_of s.armed text)
+    has_rows s r given words last h =
+        let run : IsRun s r = subst (λ (o : Option Ran). RunsAre s o) last h.ran in
+        run.left.rows ∙ ap (λ (n : ℕ). Some (drop n (rows_of s.armed r.text))) given ∙ ap (λ (w : List ℕ). Some (rows_of s.armed w)) words
+
+    by_ran : (r : Result RunReply Refusal) → Runs text binds old mid r → BeginsIf honest text old new (count_by r)
+    by_ran (Ok r) runs = record {
+      given = ap (λ (x : Seen). x.given) same ∙ runs.rows.given;
+      rows = λ e. has_rows new (record { text = text; affected = r.affected; columns = r.columns }) (ap (λ (x : Seen). x.given) same ∙ runs.rows.given) refl (ap (λ (x : Seen). x.last) same ∙ runs.last) (honesty e);
+    }
+    by_ran (Err r) runs = ap (λ (x : Seen). x.given) same ∙ runs.rows.given

@@ -5,3 +5,8 @@ pub mod Endings
 mod Going
 mod Readying
 mod Querying
+mod RowSteps
+mod LoadSteps
+mod ReadSteps
+mod GatherSteps
+mod LoadEnds

@@ -1,19 +1,19 @@
 -- A query that is ready is run; its connection tells of it, and shows what it left.
 use Rattle.std.proofs.Common.{◌≡◌, inl, inr, ℕ, Bool, true, false, List, [], ◌∷◌, refl, ap, sym, ◌∙◌, subst, Option, Some, None, Result, Ok, Err}
-use Rattle.std.specs.Prelude.{if◌then◌else◌, reverse}
+use Rattle.std.specs.Prelude.{◌⊎◌, ◌^◌, if◌then◌else◌, nat_lt, reverse}
 use Rattle.std.specs.Option.{option_map}
 use Rattle.std.specs.Result.{result_err}
 use Rattle.conn_result.specs.declared.error.Error.{Error}
-use Rattle.conn_result.specs.declared.error.Error.TheVariants.{OutOfMemory}
+use Rattle.conn_result.specs.declared.error.Error.TheVariants.{IntegerConversion, OutOfMemory}
 use Rattle.conn_cache.specs.Faults.{query_fault}
 use Rattle.conn_model.specs.Caches.{Known, Cache, same_size}
-use Rattle.conn_cache.specs.QueryProcesses.{Asked, asked, asked_without_value, counted, finishes, execute_process, ping_process, ping_view, ran, resized, runs, runs_due, types_for, unless_fault, without_value}
+use Rattle.conn_cache.specs.QueryProcesses.{Asked, affected_count, asked, asked_without_value, counted, finishes, execute_process, ping_process, ping_view, ran, resized, runs, runs_due, runs_with, types_for, unless_fault, without_value}
 use Rattle.conn_cache.specs.QueryViews.{QueryView}
 use Rattle.conn_cache.specs.Registers.{due, register_sized}
 use Rattle.conn_cache.specs.Sizes.{ClosesAll, ResizesBy}
 use Rattle.conn_cache.specs.Soundness.{IsOwnStatement}
 use Rattle.conn_model.specs.declared.cache.CacheSize.{CacheSize}
-use Rattle.conn_manager.specs.Manages.{IsUntouched}
+use Rattle.conn_manager.specs.Manages.{HasServerCause, IsRefusal, IsUntouched}
 use Rattle.conn_manager.specs.Statuses.{Status, retold}
 use Rattle.conn_manager.specs.Views.{View, with_event}
 use Rattle.conn_model.specs.Acts.{Acts, Tells}
@@ -29,53 +29,35 @@ use Rattle.conn_model.specs.declared.reply.RunSource.TheVariants.{Prepared}
 use Rattle.conn_model.proofs.Mapped.{tells_map}
 use Rattle.conn_model.proofs.Telling.{stops_telling, tells_first, with_both}
 use Rattle.conn_drivers.specs.Prepares.{WireCloses, count_heard, count_in}
-use Rattle.conn_drivers.specs.Queried.{CanRun, Goes, OpensPlain, Queries, QueriesBetween, QueriesFrom, Readies, RunsOut, SetsCacheSize, idle_events, known_of, looked_up, shut_in}
+use Rattle.conn_drivers.specs.Queried.{Answer, CanRun, DoesNothing, Following, Goes, IsIdle, LeavesOf, OpensPlain, Queries, QueriesBetween, QueriesFrom, Readies, RunsOut, SetsCacheSize, after_run, columns_by, counted_by, idle_events, known_of, looked_up, shut_in}
 use Rattle.conn_drivers.specs.Standing.{stands_in}
 use Rattle.conn_drivers.specs.Wires.{HearsBy}
+use Rattle.conn_cache.specs.declared.statement_cache.MaybeCached.{MaybeCached}
 use Rattle.conn_drivers.specs.declared.statement.Statement.{Statement}
-use Rattle.conn_drivers.proofs.Going.{goes_further, goes_heard, goes_in_room, goes_nowhere}
+use Rattle.conn_drivers.proofs.Going.{goes_closed, goes_further, goes_heard, goes_in_room, goes_nowhere}
 
 -- ---- the run
 
--- after the run the query is over with the count
-ran_out : (d : Dialect) (q : QueryView) (refusal : Option Refusal) (affected : ℕ) (s : Status) (k : Known) → ran false d q (counted q) refusal affected s k ≡ finishes q.sql (count_in refusal affected) s k
-ran_out d q None affected s k = refl
-ran_out d q (Some r) affected s k = refl
+-- after the run the query goes on with the affected rows
+ran_out : {A : Type 0} (loads : Bool) (d : Dialect) (q : QueryView) (following : Following A) (refusal : Option Refusal) (affected : ℕ) (s : Status) (k : Known) → ran loads d q following refusal affected s k ≡ after_run q following (count_in refusal affected) s k
+ran_out loads d q following None affected s k = refl
+ran_out loads d q following (Some r) affected s k = refl
 
--- a run that was heard ends its query
+-- a run that was heard
 pub runs_out : (honest : Bool) (q : QueryView) (words : List ℕ) (old new : Seen) (s s1 : Status) (result : Result ℕ Error) → words ≡ q.sql → HearsBy count_heard honest (Run q.binds) words old new s s1 result → RunsOut honest q old new s s1 result
-runs_out honest q words old new s s1 result same hears d is k told =
+runs_out honest q words old new s s1 result same hears loads following d is k told =
     let text = subst (λ (w : List ℕ). Acts honest (hear (Run q.binds) w) old new hears.heard) same hears.acts in
-    let next : Heard → Process (Asked ℕ) = λ (h : Heard). ran false d q (counted q) h.refusal h.affected (retold d h.refusal h.told s) k in
+    let next : Heard → Process (Asked (Answer loads)) = λ (h : Heard). ran loads d q following h.refusal h.affected (retold d h.refusal h.told s) k in
     let heard = goes_heard honest (Run q.binds) q.sql next hears.heard old new told text in
     let follows : retold d hears.heard.refusal hears.heard.told s ≡ s1 = ap (λ (x : Dialect). retold x hears.heard.refusal hears.heard.told s) is ∙ sym hears.follows in
-    let over : next hears.heard ≡ finishes q.sql result s1 k = ran_out d q hears.heard.refusal hears.heard.affected (retold d hears.heard.refusal hears.heard.told s) k
-    ∙ ap (λ (x : Status). finishes q.sql (count_heard hears.heard) x k) follows ∙ ap (λ (r : Result ℕ Error). finishes q.sql r s1 k) (sym hears.replies) in
-    subst (λ (p : Process (Asked ℕ)). Goes honest (runs false d q (counted q) s k) p old new told told) over heard
+    let over : next hears.heard ≡ after_run q following result s1 k = ran_out loads d q following hears.heard.refusal hears.heard.affected (retold d hears.heard.refusal hears.heard.told s) k
+    ∙ ap (λ (x : Status). after_run q following (count_heard hears.heard) x k) follows ∙ ap (λ (r : Result ℕ Error). after_run q following r s1 k) (sym hears.replies) in
+    subst (λ (p : Process (Asked (Answer loads))). Goes honest (runs loads d q following s k) p old new told told) over heard
 
 -- a statement of its own was closed after that
 pub runs_out_closed : (honest : Bool) (q : QueryView) (statement : ℕ) (old new shut : Seen) (s s1 : Status) (result : Result ℕ Error) → shut ≡ closes statement new → RunsOut honest q old new s s1 result → RunsOut honest q old shut s s1 result
-runs_out_closed honest q statement old new shut s s1 result is ran d same k told =
-    let g = ran d same k told in
-    record {
-      then = λ last after a rest. g.then last after a (closed_later honest (finishes q.sql result s1 k) statement new last told after a (subst (λ (x : Seen). Tells honest (finishes q.sql result s1 k) x last told after a) is rest));
-    }
-  where
-    closed_later : (honest : Bool) (p : Process (Asked ℕ)) (statement : ℕ) (old new : Seen) (before after : Heeded) (a : Asked ℕ) → Tells honest p (closes statement old) new before after a → Tells honest p old new before after a
-    closed_later honest p statement old new before after a tells = record {
-      acts = record {
-        sent = tells.acts.sent;
-        follows = tells.acts.follows;
-        log = tells.acts.log;
-        items = tells.acts.items;
-        told = tells.acts.told;
-        tells = tells.acts.tells;
-        later = tells.acts.later;
-        counted = tells.acts.counted;
-        same = record { dialect = tells.acts.same.dialect; number = tells.acts.same.number; armed = tells.acts.same.armed; quiet = tells.acts.same.quiet; orders = tells.acts.same.orders };
-      };
-      events = tells.events;
-    }
+runs_out_closed honest q statement old new shut s s1 result is ran loads following d same k told =
+    goes_closed honest (runs loads d q following s k) (after_run q following result s1 k) statement old new shut told told is (ran loads following d same k told)
 
 -- a kept statement runs its text
 pub kept_runs : (os : List Opened) (sql : List ℕ) (o : Option Statement) (t : Statement) → o ≡ Some t → IsOwnStatement (stands_in os) sql o → source_text os (Prepared t.number) ≡ Some sql
@@ -115,22 +97,48 @@ same_error : {T : Type 0} (r : Result T Error) (e : Error) → r ≡ Err e → r
 same_error r e f g = cc
 
 module _ {W I : Type 0} (honest : Bool) (q : QueryView) (seen : W → Seen) (status : W → Status) (told : I → Heeded) (w mid : W) (c c' : Cache Statement) (i i' : I) where
-  -- what the query does from its look-up on
-  abbrev due_process : Process (Asked ℕ)
-  due_process = runs_due false (seen w).dialect q (counted q) (due q (types_for (seen w).dialect q) c.register) (status w) (known_of c)
-
-  -- it was ready, and then it was run
-  pub ready_runs : {T : Type 0} (looked : Result T Error) (m : T) (w' : W) (result : Result ℕ Error) → looked ≡ Ok m → Readies honest q seen status told w mid c c' i i' looked → (seen mid).dialect ≡ (seen w).dialect → RunsOut honest q (seen mid) (seen w') (status mid) (status w') result
-      → Queries honest q seen status told w w' c c' i i' result
-  ready_runs {T} looked m w' result is (inl want) same ran = absurd (not_both looked m is want.is)
-  ready_runs {T} looked m w' result is (inr g) same ran =
-      let ready = subst (λ (r : Result T Error). Goes honest due_process (looked_up (seen w).dialect q r (status mid) (known_of c')) (seen w) (seen mid) (told i) (told i')) is g in
-      inr (goes_further honest due_process (runs false (seen w).dialect q (counted q) (status mid) (known_of c')) (finishes q.sql result (status w') (known_of c')) (seen w) (seen mid) (seen w') (told i) (told i') (told i') ready (ran (seen w).dialect (sym same) (known_of c') (told i')))
+  -- it was ready, and then it went on
+  pub ready_goes : (looked : Result (MaybeCached Statement) Error) (m : MaybeCached Statement) (columns : ℕ) (loads : Bool) (following : Following (Answer loads)) (w' : W) (rest : Process (Asked (Answer loads))) → looked ≡ Ok m → columns_by (known_of c') (Ok m) ≡ Ok columns
+      → Readies honest q seen status told w mid c c' i i' looked → Goes honest (runs_with loads (seen w).dialect q following columns (status mid) (known_of c')) rest (seen mid) (seen w') (told i') (told i') → LeavesOf honest q seen status told w w' c c' i i' loads following rest
+  ready_goes looked m columns loads following w' rest is found (inl want) ran = absurd (not_both looked m is want.is)
+  ready_goes looked m columns loads following w' rest is found (inr g) ran =
+      let whole = runs_due loads (seen w).dialect q following (due q (types_for (seen w).dialect q) c.register) (status w) (known_of c) in
+      let left = runs_with loads (seen w).dialect q following columns (status mid) (known_of c') in
+      let ready = subst (λ (r : Result ℕ Error). Goes honest whole (looked_up q following loads (seen w).dialect r (status mid) (known_of c')) (seen w) (seen mid) (told i) (told i')) (ap (columns_by (known_of c')) is ∙ found) (g loads following) in
+      goes_further honest whole left rest (seen w) (seen mid) (seen w') (told i) (told i') (told i') ready ran
 
   -- it was over with its look-up
-  pub ready_ends : {T : Type 0} (looked : Result T Error) (e : Error) → looked ≡ Err e → Readies honest q seen status told w mid c c' i i' looked → Queries honest q seen status told w mid c c' i i' (Err e)
-  ready_ends {T} looked e is (inl want) = inl (record { is = ap (λ (x : Error). let r : Result ℕ Error = Err x in r) (same_error looked e is want.is); wire = want.wire; cache = want.cache; handler = want.handler })
-  ready_ends {T} looked e is (inr g) = inr (subst (λ (r : Result T Error). Goes honest due_process (looked_up (seen w).dialect q r (status mid) (known_of c')) (seen w) (seen mid) (told i) (told i')) is g)
+  pub ready_ends : (looked : Result (MaybeCached Statement) Error) (e : Error) (loads : Bool) (following : Following (Answer loads)) {T : Type 0} → looked ≡ Err e → Readies honest q seen status told w mid c c' i i' looked
+      → (let over : Result T Error = Err e in DoesNothing w mid c c' i i' over) ⊎ LeavesOf honest q seen status told w mid c c' i i' loads following (finishes q.sql (Err e) (status mid) (known_of c'))
+  ready_ends looked e loads following {T} is (inl want) = inl (record { is = ap (λ (x : Error). let r : Result T Error = Err x in r) (same_error looked e is want.is); wire = want.wire; cache = want.cache; handler = want.handler })
+  ready_ends looked e loads following {T} is (inr g) =
+      inr (subst (λ (r : Result (MaybeCached Statement) Error). LeavesOf honest q seen status told w mid c c' i i' loads following (looked_up q following loads (seen w).dialect (columns_by (known_of c') r) (status mid) (known_of c'))) is (g loads following))
+
+  -- after the run its affected rows are counted
+  counts : (affected : Result ℕ Error) (s : Status) (k : Known) → after_run q (counted q) affected s k ≡ finishes q.sql (counted_by affected) s k
+  counts (Ok n) s k = refl
+  counts (Err e) s k = refl
+
+  -- it was executed once it was ready
+  pub ready_runs : (looked : Result (MaybeCached Statement) Error) (m : MaybeCached Statement) (columns : ℕ) (w' : W) (affected result : Result ℕ Error) → looked ≡ Ok m → columns_by (known_of c') (Ok m) ≡ Ok columns → Readies honest q seen status told w mid c c' i i' looked → (seen mid).dialect ≡ (seen w).dialect
+      → RunsOut honest q (seen mid) (seen w') (status mid) (status w') affected → result ≡ counted_by affected → Queries honest q seen status told w w' c c' i i' result
+  ready_runs looked m columns w' affected result is found ready same ran counted_is =
+      let went = ran false (counted q) (seen w).dialect (sym same) (known_of c') (told i') in
+      let over = counts affected (status w') (known_of c') ∙ ap (λ (r : Result ℕ Error). finishes q.sql r (status w') (known_of c')) (sym counted_is) in
+      inr (subst (λ (p : Process (Asked ℕ)). LeavesOf honest q seen status told w w' c c' i i' false (counted q) p) over
+      (ready_goes looked m columns false (counted q) w' (after_run q (counted q) affected (status w') (known_of c')) is found ready went))
+
+-- a count that doesn't fit is no refusal
+no_refusal : (n : ℕ) → IsRefusal (without_value (affected_count n)) → ⊥
+no_refusal n = elim (nat_lt n (2 ^ 64)) as (λ b. IsRefusal (without_value (if b then Ok n else Err IntegerConversion)) → ⊥) [ true ↦ (λ h. h) | false ↦ (λ h. h) ]
+
+-- its count was refused only where the run was
+pub counted_cause : (old new : Seen) (affected result : Result ℕ Error) → result ≡ counted_by affected → HasServerCause old new (without_value affected) → HasServerCause old new (without_value result)
+counted_cause old new affected result is cause = subst (λ (r : Result ℕ Error). HasServerCause old new (without_value r)) (sym is) (by_affected affected cause)
+  where
+    by_affected : (a : Result ℕ Error) → HasServerCause old new (without_value a) → HasServerCause old new (without_value (counted_by a))
+    by_affected (Ok n) cause = record { later = cause.later; refused = λ h. absurd (no_refusal n h) }
+    by_affected (Err e) cause = cause
 
 -- ---- between the two events
 
@@ -154,48 +162,58 @@ module _ (honest : Bool) (q : QueryView) (old roomy new : View) (keeps : roomy.s
       }
 
   -- memory was wanting
-  pub idle_between : (reply : Result ℕ Error) → reply ≡ Err OutOfMemory → new ≡ roomy → QueriesBetween honest q old new reply
-  idle_between reply is here = inl (record {
+  pub is_idle : {A : Type 0} (reply : Result A Error) → reply ≡ Err OutOfMemory → new ≡ roomy → IsIdle old new reply old.heeded
+  is_idle reply is here = record {
     is = is;
     untouched = untouched (ap (λ (x : View). x.seen) here) (ap (λ (x : View). x.status) here);
     cache = ap (λ (x : View). x.cache) here ∙ ap (λ (x : View). x.cache) same;
     heeds = ap (λ (x : View). x.heeded) here ∙ ap (λ (x : View). x.heeded) same;
-  })
+  }
 
   -- a fault was found
-  pub fault_between : (e : Error) → query_fault old.seen.dialect q ≡ Some e → new ≡ roomy → QueriesBetween honest q old new (Err e)
-  fault_between e is here =
-      let refused : Process (Asked ℕ) = finishes q.sql (Err e) old.status old.cache in
+  pub fault_ends : {A : Type 0} (loads : Bool) (following : Following A) (e : Error) → query_fault old.seen.dialect q ≡ Some e → new ≡ roomy
+      → Goes honest (unless_fault loads old.seen.dialect q following (query_fault old.seen.dialect q) old.status old.cache) (finishes q.sql (Err e) new.status new.cache) old.seen new.seen old.heeded new.heeded
+  fault_ends {A} loads following e is here =
+      let refused : Process (Asked A) = finishes q.sql (Err e) old.status old.cache in
       let ended : refused ≡ finishes q.sql (Err e) new.status new.cache = ap (λ (x : View). finishes q.sql (Err e) x.status x.cache) (sym (here ∙ same)) in
       let stands : Goes honest refused refused roomy.seen roomy.seen old.heeded old.heeded = goes_nowhere honest refused roomy.seen old.heeded in
       let last : Goes honest refused (finishes q.sql (Err e) new.status new.cache) roomy.seen new.seen old.heeded new.heeded =
-      subst (λ (x : Process (Asked ℕ)). Goes honest refused x roomy.seen new.seen old.heeded new.heeded) ended
+      subst (λ (x : Process (Asked A)). Goes honest refused x roomy.seen new.seen old.heeded new.heeded) ended
       (subst (λ (x : Seen). Goes honest refused refused roomy.seen x old.heeded new.heeded) (sym (ap (λ (x : View). x.seen) here))
       (subst (λ (x : Heeded). Goes honest refused refused roomy.seen roomy.seen old.heeded x) (sym (ap (λ (x : View). x.heeded) here ∙ ap (λ (x : View). x.heeded) same)) stands)) in
-      inr (subst (λ (o : Option Error). Goes honest (unless_fault false old.seen.dialect q (counted q) o old.status old.cache) (finishes q.sql (Err e) new.status new.cache) old.seen new.seen old.heeded new.heeded) (sym is)
-      (goes_in_room honest refused (finishes q.sql (Err e) new.status new.cache) old.seen roomy.seen new.seen old.heeded new.heeded keeps last))
+      subst (λ (o : Option Error). Goes honest (unless_fault loads old.seen.dialect q following o old.status old.cache) (finishes q.sql (Err e) new.status new.cache) old.seen new.seen old.heeded new.heeded) (sym is)
+      (goes_in_room honest refused (finishes q.sql (Err e) new.status new.cache) old.seen roomy.seen new.seen old.heeded new.heeded keeps last)
 
 -- no fault was found, and the query went on over a wire
 module _ {W I : Type 0} (honest : Bool) (q : QueryView) (seen : W → Seen) (status : W → Status) (told : I → Heeded) (first : Seen) (w w' : W) (c c' : Cache Statement) (i i' : I) (keeps : seen w ≡ record first { item_room = (seen w).item_room; byte_room = (seen w).byte_room }) where
-  pub wire_between : (s : Status) (k : Known) (before : Heeded) (result : Result ℕ Error) → status w ≡ s → known_of c ≡ k → told i ≡ before → query_fault first.dialect q ≡ None → Queries honest q seen status told w w' c c' i i' result
-      → (let old : View = record { seen = first; status = s; heeded = before; cache = k } in let new : View = record { seen = seen w'; status = status w'; heeded = told i'; cache = known_of c' } in QueriesBetween honest q old new result)
-  wire_between s k before result is_status is_known is_told none (inl want) =
+  -- memory was wanting
+  pub wire_idle : {A : Type 0} (s : Status) (k : Known) (before : Heeded) (result : Result A Error) → status w ≡ s → known_of c ≡ k → told i ≡ before → DoesNothing w w' c c' i i' result
+      → (let old : View = record { seen = first; status = s; heeded = before; cache = k } in let new : View = record { seen = seen w'; status = status w'; heeded = told i'; cache = known_of c' } in IsIdle old new result before)
+  wire_idle s k before result is_status is_known is_told want =
       let roomy : View = record { seen = seen w; status = s; heeded = before; cache = k } in
       let old : View = record { seen = first; status = s; heeded = before; cache = k } in
       let new : View = record { seen = seen w'; status = status w'; heeded = told i'; cache = known_of c' } in
-      idle_between honest q old roomy new keeps refl result want.is
+      is_idle honest q old roomy new keeps refl result want.is
       (λ j. record { seen = seen (want.wire j); status = (ap status want.wire ∙ is_status) j; heeded = (ap told want.handler ∙ is_told) j; cache = (ap known_of want.cache ∙ is_known) j })
-  wire_between s k before result is_status is_known is_told none (inr g) =
+
+  -- it went on
+  pub wire_goes : {A : Type 0} (loads : Bool) (following : Dialect → Following A) (s : Status) (k : Known) (before : Heeded) (last : Process (Asked A)) → status w ≡ s → known_of c ≡ k → told i ≡ before → query_fault first.dialect q ≡ None
+      → LeavesOf honest q seen status told w w' c c' i i' loads (following (seen w).dialect) last → Goes honest (unless_fault loads first.dialect q (following first.dialect) (query_fault first.dialect q) s k) last first (seen w') before (told i')
+  wire_goes {A} loads following s k before last is_status is_known is_told none g =
       let d : (seen w).dialect ≡ first.dialect = ap (λ (x : Seen). x.dialect) keeps in
-      let last : Process (Asked ℕ) = finishes q.sql result (status w') (known_of c') in
-      let due_process : Dialect → Status → Known → Process (Asked ℕ) = λ e x y. runs_due false e q (counted q) (due q (types_for e q) y.register) x y in
+      let due_process : Dialect → Status → Known → Process (Asked A) = λ e x y. runs_due loads e q (following e) (due q (types_for e q) y.register) x y in
       let here : Goes honest (due_process first.dialect s k) last (seen w) (seen w') before (told i') =
       subst (λ (e : Dialect). Goes honest (due_process e s k) last (seen w) (seen w') before (told i')) d
       (subst (λ (x : Status). Goes honest (due_process (seen w).dialect x k) last (seen w) (seen w') before (told i')) is_status
       (subst (λ (x : Known). Goes honest (due_process (seen w).dialect (status w) x) last (seen w) (seen w') before (told i')) is_known
       (subst (λ (x : Heeded). Goes honest (due_process (seen w).dialect (status w) (known_of c)) last (seen w) (seen w') x (told i')) is_told g))) in
-      inr (subst (λ (o : Option Error). Goes honest (unless_fault false first.dialect q (counted q) o s k) last first (seen w') before (told i')) (sym none)
-      (goes_in_room honest (due_process first.dialect s k) last first (seen w) (seen w') before (told i') keeps here))
+      subst (λ (o : Option Error). Goes honest (unless_fault loads first.dialect q (following first.dialect) o s k) last first (seen w') before (told i')) (sym none)
+      (goes_in_room honest (due_process first.dialect s k) last first (seen w) (seen w') before (told i') keeps here)
+
+  pub wire_between : (s : Status) (k : Known) (before : Heeded) (result : Result ℕ Error) → status w ≡ s → known_of c ≡ k → told i ≡ before → query_fault first.dialect q ≡ None → Queries honest q seen status told w w' c c' i i' result
+      → (let old : View = record { seen = first; status = s; heeded = before; cache = k } in let new : View = record { seen = seen w'; status = status w'; heeded = told i'; cache = known_of c' } in QueriesBetween honest q old new result)
+  wire_between s k before result is_status is_known is_told none (inl want) = inl (wire_idle s k before result is_status is_known is_told want)
+  wire_between s k before result is_status is_known is_told none (inr g) = inr (wire_goes false (λ d. counted q) s k before (finishes q.sql result (status w') (known_of c')) is_status is_known is_told none g)
 
 -- ---- the two events
 

@@ -5,3 +5,8 @@ pub mod Standing
 pub mod Prepares
 pub mod StatementLaws
 pub mod Queried
+pub mod Loaded
+pub mod Loading
+pub mod Loadings
+pub mod GatherLaws
+pub mod Reading

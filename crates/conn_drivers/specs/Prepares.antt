@@ -2,7 +2,6 @@
 use Rattle.std.specs.Prelude.{◌≡◌, ℕ, ◌+◌, ◌≤◌, Bool, true, false, List, length, Option, Some, None, Result, Ok, Err, IfOk}
 use Rattle.conn_result.specs.declared.error.Error.{Error}
 use Rattle.conn_result.specs.declared.error.Error.TheVariants.{DatabaseError}
-use Rattle.conn_cache.specs.QueryProcesses.{affected_count}
 use Rattle.conn_cache.specs.declared.preparer.PrepareForCache.{PrepareForCache}
 use Rattle.conn_cache.specs.declared.preparer.PrepareForCache.TheVariants.{Yes, No}
 use Rattle.conn_manager.specs.Statuses.{Status, retold}
@@ -29,12 +28,12 @@ statement_by (Err r) = Err (error_by r)
 
 -- the affected rows of a run as an answer
 abbrev pub count_by : Result RunReply Refusal → Result ℕ Error
-count_by (Ok r) = affected_count r.affected
+count_by (Ok r) = Ok r.affected
 count_by (Err r) = Err (error_by r)
 
 -- the same by what was heard
 abbrev pub count_in : Option Refusal → ℕ → Result ℕ Error
-count_in None affected = affected_count affected
+count_in None affected = Ok affected
 count_in (Some r) affected = Err (error_by r)
 
 -- by all of it
@@ -63,6 +62,7 @@ pub record SendsPrepare (d : Dialect) (honest : Bool) (sql : List ℕ) (how : Pr
   pub opens : new.open_statements ≡ opened_by sql answer old.open_statements
   pub items : old.item_room ≤ new.item_room + 1
   pub bytes : old.byte_room ≤ new.byte_room + length sql
+  pub given : new.given ≡ old.given
 
 -- nothing was sent, and the statement stands for nothing
 pub record SendsNone (old new : Seen) (s s1 : Status) (result : Result Statement Error) : Type 0 where

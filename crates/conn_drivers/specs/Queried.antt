@@ -1,11 +1,11 @@
 -- What a query does on a wire, and what its connection does.
-use Rattle.std.specs.Prelude.{◌≡◌, ◌⊎◌, ℕ, ◌+◌, ◌≤◌, Bool, false, ⊤, List, [], ◌∷◌, map, Some, Result, Ok, Err}
+use Rattle.std.specs.Prelude.{◌≡◌, ◌⊎◌, ℕ, ◌+◌, ◌≤◌, Bool, true, false, ⊤, List, [], ◌∷◌, map, Some, Result, Ok, Err}
 use Rattle.conn_result.specs.declared.error.Error.{Error}
 use Rattle.conn_result.specs.declared.error.Error.TheVariants.{OutOfMemory}
 use Rattle.conn_cache.specs.Faults.{query_fault}
 use Rattle.conn_model.specs.Caches.{Known, Cache}
 use Rattle.conn_model.specs.declared.cache.CacheSize.{CacheSize}
-use Rattle.conn_cache.specs.QueryProcesses.{Asked, asked, counted, finishes, resized, runs, runs_due, types_for, unless_fault}
+use Rattle.conn_cache.specs.QueryProcesses.{Asked, affected_count, asked, columns_at, counted, finishes, resized, runs, runs_due, runs_with, types_for, unless_fault}
 use Rattle.conn_cache.specs.QueryViews.{QueryView}
 use Rattle.conn_cache.specs.Registers.{due}
 use Rattle.conn_cache.specs.declared.statement_cache.MaybeCached.{MaybeCached}
@@ -14,6 +14,7 @@ use Rattle.conn_manager.specs.Manages.{IsUntouched}
 use Rattle.conn_manager.specs.Statuses.{Status}
 use Rattle.conn_manager.specs.Views.{KeepsCache, View}
 use Rattle.conn_model.specs.Acts.{Tells}
+use Rattle.conn_model.specs.Armed.{Values}
 use Rattle.conn_model.specs.Events.{Heeded, with_events, StartQuery, FinishQuery}
 use Rattle.conn_model.specs.Process.{Process}
 use Rattle.conn_model.specs.Seen.{Seen, Opened}
@@ -32,10 +33,31 @@ known_of c = record { register = c.register; statements = map (λ (t : Statement
 pub record Goes {A : Type 0} (honest : Bool) (whole rest : Process A) (old mid : Seen) (before now : Heeded) : Type 0 where
   pub then : (new : Seen) (after : Heeded) (a : A) → Tells honest rest mid new now after a → Tells honest whole old new before after a
 
--- what is left of a query after its look-up: the run, or the end with its error
-abbrev pub looked_up : {T : Type 0} → Dialect → QueryView → Result T Error → Status → Known → Process (Asked ℕ)
-looked_up d q (Ok m) s c = runs false d q (counted q) s c
-looked_up d q (Err e) s c = finishes q.sql (Err e) s c
+-- what a query answers: its rows where they are loaded, else how many it affected
+abbrev pub Answer : Bool → Type 0
+Answer true = List Values
+Answer false = ℕ
+
+-- what follows the accepted run of a query, by the affected rows
+abbrev pub Following : Type 0 → Type 0
+Following A = ℕ → Status → Known → Process (Asked A)
+
+-- how many columns the statement of a look-up has
+abbrev pub columns_by : Known → Result (MaybeCached Statement) Error → Result ℕ Error
+columns_by c (Ok (Cached place)) = Ok (columns_at place c)
+columns_by c (Ok (CannotCache t)) = Ok t.columns
+columns_by c (Err e) = Err e
+
+module _ {A : Type 0} (q : QueryView) (after : Following A) where
+  -- what is left of a query after its run: what follows it, or the end with its error
+  abbrev pub after_run : Result ℕ Error → Status → Known → Process (Asked A)
+  after_run (Ok affected) s c = after affected s c
+  after_run (Err e) s c = finishes q.sql (Err e) s c
+
+  -- what is left after its look-up: the run by a statement of so many columns, or the end with its error
+  abbrev pub looked_up : Bool → Dialect → Result ℕ Error → Status → Known → Process (Asked A)
+  looked_up loads d (Ok columns) s c = runs_with loads d q after columns s c
+  looked_up loads d (Err e) s c = finishes q.sql (Err e) s c
 
 -- for want of memory nothing was done
 pub record DoesNothing {W I A : Type 0} (w w' : W) (c c' : Cache Statement) (i i' : I) (result : Result A Error) : Type 0 where
@@ -47,16 +69,17 @@ pub record DoesNothing {W I A : Type 0} (w w' : W) (c c' : Cache Statement) (i i
 -- a query on a wire with its cache and its handler, before and after, from the look-up on
 module _ {W I : Type 0} (honest : Bool) (q : QueryView) (seen : W → Seen) (status : W → Status) (told : I → Heeded) (w w' : W) (c c' : Cache Statement) (i i' : I) where
   -- this is left of it
-  abbrev pub LeavesOf : Process (Asked ℕ) → Type 0
-  LeavesOf rest = Goes honest (runs_due false (seen w).dialect q (counted q) (due q (types_for (seen w).dialect q) c.register) (status w) (known_of c)) rest (seen w) (seen w') (told i) (told i')
+  abbrev pub LeavesOf : {A : Type 0} → Bool → Following A → Process (Asked A) → Type 0
+  LeavesOf loads after rest = Goes honest (runs_due loads (seen w).dialect q after (due q (types_for (seen w).dialect q) c.register) (status w) (known_of c)) rest (seen w) (seen w') (told i) (told i')
 
-  -- it is looked up
-  abbrev pub Readies : {T : Type 0} → Result T Error → Type 0
-  Readies result = DoesNothing w w' c c' i i' result ⊎ LeavesOf (looked_up (seen w).dialect q result (status w') (known_of c'))
+  -- it is looked up, whatever follows its run
+  abbrev pub Readies : Result (MaybeCached Statement) Error → Type 0
+  Readies result =
+      DoesNothing w w' c c' i i' result ⊎ ((loads : Bool) (after : Following (Answer loads)) → LeavesOf loads after (looked_up q after loads (seen w).dialect (columns_by (known_of c') result) (status w') (known_of c')))
 
   -- it is answered
   abbrev pub Queries : Result ℕ Error → Type 0
-  Queries result = DoesNothing w w' c c' i i' result ⊎ LeavesOf (finishes q.sql result (status w') (known_of c'))
+  Queries result = DoesNothing w w' c c' i i' result ⊎ LeavesOf false (counted q) (finishes q.sql result (status w') (known_of c'))
 
 -- a statement for one run is the newest that is open; on PostgreSQL none was opened
 abbrev pub OpensPlain : Dialect → List ℕ → List Opened → List Opened → Statement → Type 0
@@ -82,15 +105,21 @@ shut_in Pg os t = os
 shut_in Mysql os t = without_open t.number os
 shut_in Sqlite os t = without_open t.number os
 
--- a run's query is answered, whatever is known and whatever was told before
+-- a query was run, whatever follows, whatever is known and whatever was told before
 abbrev pub RunsOut : Bool → QueryView → Seen → Seen → Status → Status → Result ℕ Error → Type 0
-RunsOut honest q old new s s1 result = (d : Dialect) → d ≡ old.dialect → (k : Known) (told : Heeded) → Goes honest (runs false d q (counted q) s k) (finishes q.sql result s1 k) old new told told
+RunsOut honest q old new s s1 result = (loads : Bool) (after : Following (Answer loads)) (d : Dialect) → d ≡ old.dialect → (k : Known) (told : Heeded) → Goes honest (runs loads d q after s k) (after_run q after result s1 k) old new told told
 
--- a query used up no more room than this, on the same server
+-- a query used up no more room than this, on the same server, and no row was asked
 pub record Spends (items bytes : ℕ) (old new : Seen) : Type 0 where
   pub dialect : new.dialect ≡ old.dialect
   pub item_fall : old.item_room ≤ new.item_room + items
   pub byte_fall : old.byte_room ≤ new.byte_room + bytes
+  pub given : new.given ≡ old.given
+
+-- the affected rows as the answer
+abbrev pub counted_by : Result ℕ Error → Result ℕ Error
+counted_by (Ok affected) = affected_count affected
+counted_by (Err e) = Err e
 
 -- nothing was done for want of memory, and the handler was told this
 pub record IsIdle {A : Type 0} (old new : View) (reply : Result A Error) (heeded : Heeded) : Type 0 where

@@ -1,7 +1,7 @@
 //! A connection to any of the three.
 use crate::{
-    CachingConnection, Driver, Establish, MultiConnection, Mysql, Pg, R2D2Connection,
-    RawConnection, Sqlite,
+    CachingConnection, Driver, Establish, LoadConnection, MultiConnection, Mysql, Pg,
+    R2D2Connection, RawConnection, Sqlite,
 };
 use conn_cache::{CacheSize, Query};
 use conn_manager::{
@@ -10,6 +10,7 @@ use conn_manager::{
 };
 use conn_model::Dialect;
 use conn_result::{ConnectionResult, QueryResult};
+use conn_rows::RowReader;
 use conn_server::{Connector, Server};
 use std::alloc::Global;
 
@@ -137,6 +138,35 @@ impl<S: Server, H: Instrumentation + Drop> CachingConnection for AnyConnection<S
             AnyConnection::Pg(c) => c.set_prepared_statement_cache_size(size),
             AnyConnection::Mysql(c) => c.set_prepared_statement_cache_size(size),
             AnyConnection::Sqlite(c) => c.set_prepared_statement_cache_size(size),
+        }
+    }
+}
+
+impl<S: Server, H: Instrumentation + Drop> LoadConnection for AnyConnection<S, H> {
+    fn load_list_by<Q: Query, R: RowReader>(
+        &mut self,
+        alloc: Global,
+        source: &Q,
+        reader: &R,
+        row_by_row: bool,
+    ) -> QueryResult<Vec<R::Value>> {
+        match self {
+            AnyConnection::Pg(c) => c.load_list_by(alloc, source, reader, row_by_row),
+            AnyConnection::Mysql(c) => c.load_list_by(alloc, source, reader, row_by_row),
+            AnyConnection::Sqlite(c) => c.load_list_by(alloc, source, reader, row_by_row),
+        }
+    }
+
+    fn get_result_by<Q: Query, R: RowReader>(
+        &mut self,
+        alloc: Global,
+        source: &Q,
+        reader: &R,
+    ) -> QueryResult<R::Value> {
+        match self {
+            AnyConnection::Pg(c) => c.get_result_by(alloc, source, reader),
+            AnyConnection::Mysql(c) => c.get_result_by(alloc, source, reader),
+            AnyConnection::Sqlite(c) => c.get_result_by(alloc, source, reader),
         }
     }
 }

@@ -1,5 +1,8 @@
 //! The three connections, each over the one that they have in common.
-use crate::{CachingConnection, Establish, Kind, Mysql, Pg, R2D2Connection, RawConnection, Sqlite};
+use crate::{
+    CachingConnection, Establish, Kind, LoadConnection, Mysql, Pg, R2D2Connection, RawConnection,
+    Sqlite,
+};
 use conn_cache::{CacheSize, Query};
 use conn_manager::{
     Connection, DynInstrumentation, Instrumentation, InstrumentationEvent, SimpleConnection,
@@ -7,6 +10,7 @@ use conn_manager::{
 };
 use conn_model::Dialect;
 use conn_result::{ConnectionResult, QueryResult};
+use conn_rows::RowReader;
 use conn_server::{Connector, Server};
 use std::alloc::Global;
 use std::marker::PhantomData;
@@ -98,6 +102,27 @@ impl<S: Server, D: Kind, H: Instrumentation + Drop> CachingConnection for Driver
 
     fn set_prepared_statement_cache_size(&mut self, size: CacheSize) {
         self.raw.set_prepared_statement_cache_size(size)
+    }
+}
+
+impl<S: Server, D: Kind, H: Instrumentation + Drop> LoadConnection for Driver<S, D, H> {
+    fn load_list_by<Q: Query, R: RowReader>(
+        &mut self,
+        alloc: Global,
+        source: &Q,
+        reader: &R,
+        row_by_row: bool,
+    ) -> QueryResult<Vec<R::Value>> {
+        self.raw.load_list_by(alloc, source, reader, row_by_row)
+    }
+
+    fn get_result_by<Q: Query, R: RowReader>(
+        &mut self,
+        alloc: Global,
+        source: &Q,
+        reader: &R,
+    ) -> QueryResult<R::Value> {
+        self.raw.get_result_by(alloc, source, reader)
     }
 }
 

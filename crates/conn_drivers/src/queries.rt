@@ -1,12 +1,12 @@
 //! How a wire executes queries through the cache of statements.
 ghost use Rattle.std.specs.Prelude.{◌≡◌, ◌≤◌, ◌+◌, length, Some};
-ghost use Rattle.conn_cache.specs.QueryProcesses.{types_for, without_value};
+ghost use Rattle.conn_cache.specs.QueryProcesses.{affected_count, types_for, without_value};
 ghost use Rattle.conn_manager.specs.Manages.{HasServerCause};
 ghost use Rattle.conn_model.specs.Statements.{run_bytes, source_text};
 ghost use Rattle.conn_model.specs.declared.item.Call.TheVariants.{Run};
 ghost use Rattle.conn_model.specs.declared.reply.RunSource.TheVariants.{Prepared};
-ghost use Rattle.conn_drivers.specs.Prepares.{count_heard};
-ghost use Rattle.conn_drivers.specs.Queried.{CanRun, KeepsNone, Queries, Readies, RunsOut, Spends, shut_in};
+ghost use Rattle.conn_drivers.specs.Loading.{BeginsIf};
+ghost use Rattle.conn_drivers.specs.Queried.{CanRun, KeepsNone, Queries, Readies, RunsOut, Spends, counted_by, shut_in};
 ghost use Rattle.conn_drivers.specs.Standing.{AreHeld, HasRoom, stands_in};
 ghost use Rattle.conn_drivers.specs.Wires.{HearsBy};
 ghost use Rattle.conn_cache.specs.Soundness.{IsOwnAnswer};
@@ -16,7 +16,7 @@ use crate::{Statement, Wire};
 use conn_cache::{MaybeCached, Query, StatementCache};
 use conn_manager::Instrumentation;
 use conn_model::{BindType, Dialect, RunSource};
-use conn_result::QueryResult;
+use conn_result::{Error, QueryResult};
 use conn_server::Server;
 
 /// The types by which a query is looked up: MySQL and SQLite know a statement by its text alone.
@@ -29,9 +29,28 @@ fn types_for<'a, Q: Query>(dialect: Dialect, source: &'a Q) -> &'a [BindType]
     }
 }
 
+/// The affected rows as an answer.
+fn counted_by(affected: QueryResult<u64>) -> QueryResult<usize>
+    ensures { result ≡ counted_by affected }
+{
+    match affected {
+        Ok(affected) => affected_count(affected),
+        Err(e) => Err(e),
+    }
+}
+
+fn affected_count(affected: u64) -> QueryResult<usize>
+    ensures { result ≡ affected_count affected }
+{
+    match usize::try_from(affected) {
+        Ok(count) => Ok(count),
+        Err(_) => Err(Error::IntegerConversion),
+    }
+}
+
 impl<S: Server> Wire<S> {
     /// Looks a query up: its statement is there then, or it is over.
-    fn ready<Q: Query, I: Instrumentation>(
+    pub(crate) fn ready<Q: Query, I: Instrumentation>(
         &mut self,
         cache: &mut StatementCache<Statement>,
         source: &Q,
@@ -57,8 +76,8 @@ impl<S: Server> Wire<S> {
         cache.cached_statement(source, types, self, handler)
     }
 
-    /// Runs a query by a statement of its text, or by its text.
-    fn run_query<Q: Query>(&mut self, by: RunSource<'_>, source: &Q) -> QueryResult<usize>
+    /// Runs a query by a statement of its text, or by its text, and answers how many rows it affected.
+    pub(crate) fn run_query<Q: Query>(&mut self, by: RunSource<'_>, source: &Q) -> QueryResult<u64>
         requires opened { source_text (S.seen self.old.server).open_statements by
             ≡ Some (Q.view source.now).sql }
         requires room { HasRoom 2 (run_bytes (Q.view source.now).sql (Q.view source.now).binds)
@@ -69,12 +88,15 @@ impl<S: Server> Wire<S> {
             (without_value result) }
         ensures open { (S.seen self.new.server).open_statements
             ≡ (S.seen self.old.server).open_statements }
+        ensures dialect { (S.seen self.new.server).dialect ≡ (S.seen self.old.server).dialect }
+        ensures begins { BeginsIf S.is_honest (Q.view source.now).sql (S.seen self.old.server)
+            (S.seen self.new.server) result }
     {
         self.run_with(by, source.binds())
     }
 
     /// Runs a query whose statement isn't kept: PostgreSQL runs its text, the others its statement, which is closed then.
-    fn run_plain<Q: Query>(&mut self, statement: Statement, source: &Q) -> QueryResult<usize>
+    fn run_plain<Q: Query>(&mut self, statement: Statement, source: &Q) -> QueryResult<u64>
         requires opened { CanRun (S.seen self.old.server).dialect
             (S.seen self.old.server).open_statements statement (Q.view source.now).sql }
         requires room { HasRoom 2 (run_bytes (Q.view source.now).sql (Q.view source.now).binds)
@@ -115,11 +137,25 @@ impl<S: Server> Wire<S> {
     {
         match self.ready(cache, source, handler) {
             Ok(MaybeCached::Cached(place)) => match cache.statement(place) {
-                Some(statement) => self.run_query(RunSource::Prepared(statement.number), source),
+                Some(statement) => {
+                    counted_by(self.run_query(RunSource::Prepared(statement.number), source))
+                }
                 None => unreachable!(),
             },
-            Ok(MaybeCached::CannotCache(statement)) => self.run_plain(statement, source),
+            Ok(MaybeCached::CannotCache(statement)) => {
+                counted_by(self.run_plain(statement, source))
+            }
             Err(e) => Err(e),
         }
+    }
+}
+
+#[cfg(test)]
+mod tests {
+    use super::*;
+
+    #[test]
+    fn each_count_of_rows_fits(rt: HostRuntime) {
+        assert_eq!(rt; affected_count(u64::MAX).ok(), Some(usize::MAX));
     }
 }

@@ -5,7 +5,7 @@ ghost use Rattle.conn_manager.specs.Manages.{HasServerCause};
 ghost use Rattle.conn_manager.specs.Statuses.{is_broken};
 ghost use Rattle.conn_drivers.specs.Queried.{QueriesFrom};
 
-use crate::CachingConnection;
+use crate::LoadConnection;
 use crate::ping::Ping;
 use conn_manager::AnsiTransactionManager;
 use conn_result::QueryResult;
@@ -20,7 +20,7 @@ fn without_count(reply: QueryResult<usize>) -> QueryResult<()>
 }
 
 /// A connection that a pool keeps.
-pub trait R2D2Connection: CachingConnection {
+pub trait R2D2Connection: LoadConnection {
     /// Asks the server for nothing, to see whether it answers.
     final fn ping(&mut self) -> QueryResult<()>
         ensures pings { QueriesFrom Self.is_honest ping_view ping_process (Self.view self.old)

@@ -7,9 +7,11 @@ ghost use Rattle.conn_model.specs.Statements.{run_bytes};
 ghost use Rattle.conn_drivers.specs.Standing.{AreHeld, held_prop};
 
 use crate::faults::query_fault;
+use crate::gather::{FirstOf, Gather, ListOf};
 use crate::opening::open_telling;
 use crate::room::query_bytes;
-use crate::{CachingConnection, Statement, Wire};
+use crate::rows::RowsReply;
+use crate::{CachingConnection, LoadConnection, Statement, Wire};
 use conn_cache::{CacheSize, Query, StatementCache};
 use conn_manager::{
     Connection, Instrumentation, InstrumentationEvent, SimpleConnection, StrQueryHelper,
@@ -17,6 +19,7 @@ use conn_manager::{
 };
 use conn_model::Dialect;
 use conn_result::{ConnectionResult, Error, QueryResult};
+use conn_rows::RowReader;
 use conn_server::{Connector, Server};
 use std::alloc::Global;
 
@@ -35,6 +38,8 @@ impl<S: Server, H: Instrumentation + Drop> RawConnection<S, H> {
     ghost use Rattle.conn_cache.specs.QueryProcesses.{without_value};
     ghost use Rattle.conn_manager.specs.Manages.{HasServerCause};
     ghost use Rattle.conn_drivers.specs.Establishing.{Establishes};
+    ghost use Rattle.conn_drivers.specs.Loading.{AsksBy};
+    ghost use Rattle.conn_drivers.specs.Loadings.{LoadsBetween, LoadsBy};
     ghost use Rattle.conn_drivers.specs.Queried.{known_of, QueriesBetween};
     ghost use Rattle.conn_drivers.specs.Raws.{shows};
 
@@ -96,6 +101,59 @@ impl<S: Server, H: Instrumentation + Drop> RawConnection<S, H> {
             Some(e) => Err(e),
             None => self.wire.query(&mut self.cache, source, &mut self.handler),
         }
+    }
+
+    /// What a load does between its two events.
+    fn load<Q: Query, G: Gather>(
+        &mut self,
+        alloc: Global,
+        source: &Q,
+        gather: &G,
+    ) -> RowsReply<G::Value>
+        ensures loads { LoadsBetween S.is_honest (Q.view source.now) (G.makes gather.now)
+            (shows S.seen H.told self.old) (shows S.seen H.told self.new) result.error
+            result.reply }
+        ensures cause { HasServerCause (S.seen self.old.wire.server)
+            (S.seen self.new.wire.server) (without_value result.reply) }
+        ensures asks { let old = S.seen self.old.wire.server in
+            AsksBy (G.asks_all gather.now old.dialect) old (S.seen self.new.wire.server)
+            result.reply }
+    {
+        match self.reserve_for(source) {
+            Ok(()) => {}
+            Err(e) => return RowsReply::refused(e),
+        }
+        match query_fault(self.wire.server.dialect(), source) {
+            Some(e) => RowsReply::refused(e),
+            None => self
+                .wire
+                .load(&mut self.cache, source, &mut self.handler, alloc, gather),
+        }
+    }
+
+    /// Loads a query, and tells its handler of its start and of its end.
+    fn load_by<Q: Query, G: Gather>(
+        &mut self,
+        alloc: Global,
+        source: &Q,
+        gather: &G,
+    ) -> QueryResult<G::Value>
+        ensures loads { LoadsBy S.is_honest (Q.view source.now) (G.makes gather.now)
+            (shows S.seen H.told self.old) (shows S.seen H.told self.new) result }
+        ensures cause { HasServerCause (S.seen self.old.wire.server)
+            (S.seen self.new.wire.server) (without_value result) }
+        ensures asks { let old = S.seen self.old.wire.server in
+            AsksBy (G.asks_all gather.now old.dialect) old (S.seen self.new.wire.server)
+            result }
+    {
+        let query = StrQueryHelper::new(source.sql());
+        self.handler
+            .on_connection_event(InstrumentationEvent::StartQuery { query });
+        let loaded = self.load(alloc, source, gather);
+        let told = loaded.error.as_ref();
+        self.handler
+            .on_connection_event(InstrumentationEvent::FinishQuery { query, error: told });
+        loaded.reply
     }
 }
 
@@ -172,5 +230,26 @@ impl<S: Server, H: Instrumentation + Drop> CachingConnection for RawConnection<S
 
     fn set_prepared_statement_cache_size(&mut self, size: CacheSize) {
         self.cache.set_cache_size(size, &mut self.wire);
+    }
+}
+
+impl<S: Server, H: Instrumentation + Drop> LoadConnection for RawConnection<S, H> {
+    fn load_list_by<Q: Query, R: RowReader>(
+        &mut self,
+        alloc: Global,
+        source: &Q,
+        reader: &R,
+        row_by_row: bool,
+    ) -> QueryResult<Vec<R::Value>> {
+        self.load_by(alloc, source, &ListOf { reader, row_by_row })
+    }
+
+    fn get_result_by<Q: Query, R: RowReader>(
+        &mut self,
+        alloc: Global,
+        source: &Q,
+        reader: &R,
+    ) -> QueryResult<R::Value> {
+        self.load_by(alloc, source, &FirstOf { reader })
     }
 }

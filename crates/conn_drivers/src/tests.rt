@@ -1,21 +1,14 @@
 //! How connections are established over servers in memory: what is sent first, each refusal, what a handler is told, and
-//! when a connection is broken; how often queries are prepared, and what refuses them.
+//! when a connection is broken.
 ghost use Rattle.std.specs.Prelude.{◌∷◌, []};
-ghost use mathlib.Core.Path.{refl};
 
 use crate::opening::open_telling;
-use crate::{
-    AnyConnection, CacheSize, CachingConnection, Establish, PgConnection, Query, R2D2Connection,
-    RawConnection, Wire, execute,
-};
+use crate::{AnyConnection, Establish, PgConnection, R2D2Connection};
 use conn_manager::{
     AnsiTransactionManager, Connection, Instrumentation, InstrumentationEvent, NoInstrumentation,
     SimpleConnection,
 };
-use conn_model::{Bind, BindType, Call, Value};
-use conn_result::{
-    BindFault, BuildFault, ConnectionError, ConnectionResult, DatabaseErrorKind, Error, UrlFault,
-};
+use conn_result::{ConnectionError, ConnectionResult, DatabaseErrorKind, Error, UrlFault};
 use conn_server::{Connector, Dialect, PlanLine, ScriptedConnector, ScriptedServer, Wish};
 use std::alloc::Global;
 use std::test::Fail;
@@ -54,9 +47,9 @@ impl Instrumentation for Counter {
     }
 }
 
-type Opened = ConnectionResult<AnyConnection<ScriptedServer, NoInstrumentation>>;
+pub(crate) type Opened = ConnectionResult<AnyConnection<ScriptedServer, NoInstrumentation>>;
 
-fn url_of(dialect: Dialect) -> &'static str {
+pub(crate) fn url_of(dialect: Dialect) -> &'static str {
     match dialect {
         Dialect::Pg => "postgres://localhost",
         Dialect::Mysql => "mysql://localhost",
@@ -64,7 +57,12 @@ fn url_of(dialect: Dialect) -> &'static str {
     }
 }
 
-fn open(alloc: Global, connector: &mut ScriptedConnector, dialect: Dialect, url: &str) -> Opened {
+pub(crate) fn open(
+    alloc: Global,
+    connector: &mut ScriptedConnector,
+    dialect: Dialect,
+    url: &str,
+) -> Opened {
     AnyConnection::establish(alloc, connector, dialect, url, NoInstrumentation)
 }
 
@@ -228,195 +226,4 @@ fn a_text_with_a_nul_is_not_sent_to_postgresql(rt: HostRuntime) {
         }
         Err(_) => assert!(rt; false, "not refused"),
     }
-}
-
-/// A query with one bind.
-#[derive(Drop)]
-struct OneBind {
-    id: Option<u64>,
-    text: &'static str,
-    is_safe: bool,
-    has_changes: bool,
-    bind: Bind,
-}
-
-impl OneBind {
-    /// One that is safe to keep, with a number of type smallint.
-    fn new(id: Option<u64>, text: &'static str, number: i64) -> OneBind {
-        OneBind {
-            id,
-            text,
-            is_safe: true,
-            has_changes: true,
-            bind: Bind {
-                kind: BindType::SmallInt,
-                value: Value::Int(number),
-            },
-        }
-    }
-}
-
-impl Query for OneBind {
-    ghost view = { λ q. record {
-      sql = q.text.now;
-      types = q.bind.kind ∷ [];
-      binds = q.bind ∷ [];
-      is_safe = q.is_safe;
-      has_changes = q.has_changes;
-      id = q.id;
-    } };
-
-    fn sql(&self) -> &str {
-        self.text
-    }
-
-    fn bind_types(&self) -> &[BindType] {
-        std::slice::from_ref(&self.bind.kind)
-    }
-
-    fn binds(&self) -> &[Bind] {
-        std::slice::from_ref(&self.bind)
-    }
-
-    fn is_safe_to_cache_prepared(&self) -> bool {
-        self.is_safe
-    }
-
-    fn has_changes(&self) -> bool {
-        self.has_changes
-    }
-
-    fn query_id(&self) -> Option<u64> {
-        self.id
-    }
-
-    ghost law = { λ q. refl };
-}
-
-/// A connection whose server refuses this item.
-fn open_refusing(
-    alloc: Global,
-    dialect: Dialect,
-    item: u64,
-) -> Result<Option<AnyConnection<ScriptedServer, NoInstrumentation>>, Fail> {
-    let mut connector = ScriptedConnector::new(alloc);
-    connector.arm(alloc, &[refusal(item, 42)])?;
-    Ok(open(alloc, &mut connector, dialect, url_of(dialect)).ok())
-}
-
-#[test]
-fn a_kept_query_is_prepared_once(rt: HostRuntime) -> Result<(), Fail> {
-    for (dialect, first, second, last) in [
-        (Dialect::Pg, 4, 5, 6),
-        (Dialect::Mysql, 10, 11, 13),
-        (Dialect::Sqlite, 2, 3, 5),
-    ] {
-        let Some(mut conn) = open_refusing(rt.alloc(), dialect, 99)? else {
-            assert!(rt; false, "not refused");
-            return Ok(());
-        };
-        let query = OneBind::new(Some(7), "UPDATE a", 1);
-        assert!(rt; matches!(execute(&mut conn, &query), Ok(1)));
-        assert_eq!(rt; conn.sent(), first);
-        assert!(rt; matches!(execute(&mut conn, &query), Ok(1)));
-        assert_eq!(rt; conn.sent(), second);
-        conn.set_prepared_statement_cache_size(CacheSize::Disabled);
-        assert!(rt; matches!(execute(&mut conn, &query), Ok(1)));
-        assert_eq!(rt; conn.sent(), last);
-        assert!(rt; conn.ping().is_ok());
-    }
-    Ok(())
-}
-
-#[test]
-fn a_query_with_a_fault_is_not_sent(rt: HostRuntime) -> Result<(), Fail> {
-    let Some(mut conn) = open_refusing(rt.alloc(), Dialect::Sqlite, 99)? else {
-        assert!(rt; false, "not refused");
-        return Ok(());
-    };
-    let mut query = OneBind::new(None, "", 70000);
-    query.has_changes = false;
-    let empty = execute(&mut conn, &query);
-    assert!(rt;
-        matches!(
-            empty,
-            Err(Error::QueryBuilderError(BuildFault::EmptyChangeset))
-        )
-    );
-    query.has_changes = true;
-    let unfit = execute(&mut conn, &query);
-    assert!(rt;
-        matches!(
-            unfit,
-            Err(Error::SerializationError(BindFault { place: 0 }))
-        )
-    );
-    let nul = execute(&mut conn, &OneBind::new(None, "a\0", 1));
-    assert!(rt; matches!(nul, Err(Error::InvalidCString(1))));
-    let blank = execute(&mut conn, &OneBind::new(None, " \n", 1));
-    assert!(rt; matches!(blank, Err(Error::QueryBuilderError(BuildFault::EmptyQuery))));
-    assert_eq!(rt; conn.sent(), 0);
-    Ok(())
-}
-
-#[test]
-fn a_refused_prepare_keeps_nothing_and_uses_its_number_up(rt: HostRuntime) -> Result<(), Fail> {
-    let Some(mut conn) = open_refusing(rt.alloc(), Dialect::Pg, 3)? else {
-        assert!(rt; false, "not refused");
-        return Ok(());
-    };
-    let query = OneBind::new(Some(7), "UPDATE a", 1);
-    let refused = execute(&mut conn, &query);
-    assert!(rt; matches!(refused, Err(Error::DatabaseError(_, 42))));
-    assert!(rt; matches!(execute(&mut conn, &query), Ok(1)));
-    assert_eq!(rt; conn.sent(), 5);
-    let prepared = conn
-        .into_server()
-        .item(rt.alloc(), 3)?
-        .map(|item| item.call);
-    assert!(rt; matches!(prepared, Some(Call::Prepare { name: Some(2) })));
-    Ok(())
-}
-
-/// Writes down what it is told of queries.
-#[derive(Drop)]
-struct Events {
-    told: Vec<&'static str>,
-}
-
-impl Instrumentation for Events {
-    ghost use Rattle.std.specs.Prelude.{None};
-
-    ghost told = { λ h. None };
-
-    fn on_connection_event(&mut self, event: InstrumentationEvent<'_>) {
-        let name = match event {
-            InstrumentationEvent::StartQuery { .. } => "start",
-            InstrumentationEvent::CacheQuery { .. } => "cache",
-            InstrumentationEvent::FinishQuery { error: None, .. } => "finish",
-            InstrumentationEvent::FinishQuery { error: Some(_), .. } => "fail",
-            _ => "other",
-        };
-        let _ = self.told.push(name);
-    }
-}
-
-#[test]
-fn a_clash_and_the_same_size_leave_the_cache(rt: HostRuntime) {
-    let wire = Wire::new(ScriptedServer::new(rt.alloc(), Dialect::Sqlite, 0));
-    let events = Events {
-        told: Vec::new(rt.alloc()),
-    };
-    let mut conn = RawConnection::new(rt.alloc(), wire, events);
-    let query = OneBind::new(Some(7), "UPDATE a", 1);
-    assert!(rt; matches!(execute(&mut conn, &query), Ok(1)));
-    let clash = execute(&mut conn, &OneBind::new(Some(7), "UPDATE b", 1));
-    assert!(rt; matches!(clash, Err(Error::QueryIdClash)));
-    conn.set_prepared_statement_cache_size(CacheSize::Unbounded);
-    assert!(rt; matches!(execute(&mut conn, &query), Ok(1)));
-    assert_eq!(rt; conn.sent(), 3);
-    let told = [
-        "start", "cache", "finish", "start", "fail", "start", "finish",
-    ];
-    assert_eq!(rt; conn.handler.told.as_slice(), told.as_slice());
 }

@@ -6,14 +6,16 @@ ghost use Rattle.conn_model.specs.Statements.{run_bytes, source_text, text_of};
 ghost use Rattle.conn_model.specs.declared.item.Call.TheVariants.{Exec, Prepare, Run};
 ghost use Rattle.conn_manager.specs.Manages.{done, bare_process, HasServerCause};
 ghost use Rattle.conn_manager.specs.Statuses.{no_depth, retold};
-ghost use Rattle.conn_cache.specs.QueryProcesses.{affected_count, without_value};
+ghost use Rattle.conn_cache.specs.QueryProcesses.{without_value};
+ghost use Rattle.conn_drivers.specs.Loading.{BeginsIf, TakesRow};
 ghost use Rattle.conn_drivers.specs.Prepares.{count_by, count_heard};
 ghost use Rattle.conn_drivers.specs.Wires.{Hears, HearsBy, OpensIf};
 
 use conn_manager::{TransactionManagerStatus, reply_of, retold};
-use conn_model::{Bind, Refusal, RunReply, RunSource, nul_fault};
+use conn_model::{Bind, Refusal, Row, RowRefusal, RunReply, RunSource, nul_fault};
 use conn_result::{Error, QueryResult};
 use conn_server::Server;
+use std::alloc::Global;
 
 /// A server, and what is tracked of its transaction. It has no handler: its connection tells what is sent on it.
 #[derive(Drop)]
@@ -29,21 +31,12 @@ pub(crate) fn error_of(refusal: Refusal) -> Error
     Error::DatabaseError(refusal.kind, refusal.code)
 }
 
-fn affected_count(affected: u64) -> QueryResult<usize>
-    ensures { result ≡ affected_count affected }
-{
-    match usize::try_from(affected) {
-        Ok(count) => Ok(count),
-        Err(_) => Err(Error::IntegerConversion),
-    }
-}
-
 /// The affected rows of a run, or its refusal.
-fn count_by(ran: Result<RunReply, Refusal>) -> QueryResult<usize>
+fn count_by(ran: Result<RunReply, Refusal>) -> QueryResult<u64>
     ensures { result ≡ count_by ran }
 {
     match ran {
-        Ok(reply) => affected_count(reply.affected),
+        Ok(reply) => Ok(reply.affected),
         Err(refusal) => Err(error_of(refusal)),
     }
 }
@@ -163,7 +156,7 @@ impl<S: Server> Wire<S> {
     }
 
     /// Runs a text, or an open statement, with these binds, and answers how many rows it affected.
-    pub(crate) fn run_with(&mut self, source: RunSource<'_>, binds: &[Bind]) -> QueryResult<usize>
+    pub(crate) fn run_with(&mut self, source: RunSource<'_>, binds: &[Bind]) -> QueryResult<u64>
         requires opened { IsSome (source_text (S.seen self.old.server).open_statements source) }
         requires items { 2 ≤ (S.seen self.old.server).item_room }
         requires bytes { run_bytes (text_of (S.seen self.old.server).open_statements source)
@@ -176,19 +169,28 @@ impl<S: Server> Wire<S> {
             (without_value result) }
         ensures open { (S.seen self.new.server).open_statements
             ≡ (S.seen self.old.server).open_statements }
+        ensures dialect { (S.seen self.new.server).dialect ≡ (S.seen self.old.server).dialect }
+        ensures begins { let old = S.seen self.old.server in
+            BeginsIf S.is_honest (text_of old.open_statements source.entry) old
+            (S.seen self.new.server) result }
     {
         let ran = self.server.run(source, binds);
         self.follow(ran.err());
         count_by(ran)
     }
-}
 
-#[cfg(test)]
-mod tests {
-    use super::*;
-
-    #[test]
-    fn each_count_of_rows_fits(rt: HostRuntime) {
-        assert_eq!(rt; affected_count(u64::MAX).ok(), Some(usize::MAX));
+    /// The next row of the last run. A refused one ends the rows, and is an error; so is want of memory, which changes nothing.
+    pub(crate) fn next_row(&mut self, alloc: Global) -> QueryResult<Option<Row>>
+        ensures { TakesRow (S.seen self.old.server) (S.seen self.new.server) self.old.status
+            self.new.status result }
+    {
+        match self.server.next_row(alloc) {
+            Ok(row) => Ok(row),
+            Err(RowRefusal::Memory) => Err(Error::OutOfMemory),
+            Err(RowRefusal::Refused(refusal)) => {
+                self.follow(Some(refusal));
+                Err(error_of(refusal))
+            }
+        }
     }
 }

@@ -3,6 +3,8 @@ use Rattle.std.specs.Prelude.{ℕ, min, List, [], ◌∷◌, length, codes, if�
 use Rattle.conn_model.specs.Classes.{class, begins, same_text}
 use Rattle.conn_model.specs.declared.class.Class.{Class}
 use Rattle.conn_model.specs.declared.class.Class.TheVariants as of
+use Rattle.conn_model.specs.declared.plan.PlanLine.{PlanLine}
+use Rattle.conn_model.specs.declared.plan.PlanLine.TheVariants.{Refuse, RefuseRow, NoConnect, Rows, Notify}
 use Rattle.conn_model.specs.declared.value.Value.{Value}
 
 -- the values of a row
@@ -13,6 +15,15 @@ Values = List Value
 pub record Armed : Type 0 where
   pub text : List ℕ
   pub row : Values
+
+-- the rows that the lines arm servers with, in order
+abbrev pub armed_of : List PlanLine → List Armed
+armed_of [] = []
+armed_of (Rows text row ∷ lines) = record { text = text; row = row } ∷ armed_of lines
+armed_of (Refuse s i c k w ∷ lines) = armed_of lines
+armed_of (RefuseRow s i r c k w ∷ lines) = armed_of lines
+armed_of (NoConnect a code ∷ lines) = armed_of lines
+armed_of (Notify s n ∷ lines) = armed_of lines
 
 -- the rows that an accepted text of the class affects
 abbrev pub affected_by : Class → ℕ

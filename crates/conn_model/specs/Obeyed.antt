@@ -4,6 +4,8 @@ use Rattle.std.specs.Option.{option_and_then}
 use Rattle.conn_model.specs.Kinds.{mysql_kind, sqlite_kind}
 use Rattle.conn_model.specs.States.{StateOf, State, Idle, Open, Lost, commits, is_serialization_failure, step}
 use Rattle.conn_model.specs.declared.item.Answer.TheVariants.{Refused}
+use Rattle.conn_model.specs.declared.item.Call.{Call}
+use Rattle.conn_model.specs.declared.item.Call.TheVariants.{Exec, Prepare, Run, Fetch}
 use Rattle.conn_model.specs.declared.item.Dialect.{Dialect}
 use Rattle.conn_model.specs.declared.item.Dialect.TheVariants.{Pg, Mysql, Sqlite}
 use Rattle.conn_model.specs.declared.item.Effect.{Effect}
@@ -49,11 +51,18 @@ ordered Pg order = record { code = order.code; kind = order.kind }
 ordered Mysql order = record { code = order.code; kind = mysql_kind order.code }
 ordered Sqlite order = record { code = order.code; kind = sqlite_kind order.code }
 
--- an item with the answer that the order for it has in this state; a lost server looks at no orders
+-- the call asks for a row
+abbrev pub is_fetch : Call → Bool
+is_fetch Fetch = true
+is_fetch Exec = false
+is_fetch (Prepare name) = false
+is_fetch (Run binds) = false
+
+-- an item with the answer that the order for it has in this state; a lost server looks at no orders, and none is for a row
 abbrev pub obeyed : Dialect → Option Order → Option State → Item → Item
 obeyed d None s i = i
 obeyed d (Some order) None i = i
-obeyed d (Some order) (Some s) i = if is_lost s then i else record i { answer = Refused (ordered d order) (wished d s (commits i.call i.text) (ordered d order).kind order.wish) }
+obeyed d (Some order) (Some s) i = if is_fetch i.call then i else if is_lost s then i else record i { answer = Refused (ordered d order) (wished d s (commits i.call i.text) (ordered d order).kind order.wish) }
 
 -- items with the answers that the orders for them have, from a state and a place on
 abbrev pub obedient : Dialect → (ℕ → Option Order) → Option State → ℕ → List Item → List Item

@@ -12,6 +12,7 @@ use Rattle.conn_model.specs.declared.item.Item.{Item}
 use Rattle.conn_manager.specs.Manages.{Done, done, Reply as Answer, send_process, try_text}
 use Rattle.conn_manager.specs.Statuses.{Status, retold}
 use Rattle.conn_model.specs.Caches.{Known}
+use Rattle.conn_cache.specs.LoadProcesses.{looked}
 use Rattle.conn_cache.specs.QueryProcesses.{ping_view}
 use Rattle.conn_report.specs.declared.entry.Reply.{Reply}
 use Rattle.conn_report.specs.declared.entry.Reply.TheVariants as replies
@@ -26,7 +27,7 @@ use Rattle.conn_reading.specs.Asking.{Outcome, declared_process, find_query, pro
 use Rattle.conn_reading.specs.Blocks.{plain_deed, if_live, closing, deed_in, deed_of}
 use Rattle.conn_reading.specs.Folds.{Stack, Kind, Begins, Commits, Rolls, Closes, Sends, after_reply, kind_of, KeepsLive}
 use Rattle.conn_reading.specs.Histories.{Operation, Begin, Commit, Rollback, TestBegin, Close, Asks, IsOperation, left_status, operation_process}
-use Rattle.conn_reading.specs.Plainly.{Plainly, looked}
+use Rattle.conn_reading.specs.Plainly.{Plainly}
 use Rattle.conn_reading.specs.Reading.{Read, read, Reads}
 use Rattle.conn_reading.specs.Sessions.{deed_kind, after_kind, KindLive, IsClean, QueriesPlain, SendsPlain}
 use Rattle.conn_reading.specs.Verdicts.{is_plain}
@@ -85,7 +86,7 @@ declared_plainly call n (q ∷ qs) c d S h = by_number (q.number == n) (declared
   where
     by_number : (b : Bool) → Plainly d (λ (o : Outcome). o.status) S (declared_process d call (find_query n qs) S c) → Plainly d (λ (o : Outcome). o.status) S (declared_process d call (if b then Some q else find_query n qs) S c)
     by_number true rest =
-        own_plainly d (view_of q) c.register (λ (o : Outcome). o.status) (λ (o : Outcome). o.cache) false None S (query_call_process d call (view_of q) S c) h.0 (call_own d call (view_of q) S c)
+        own_plainly d (view_of q) c.register (λ (o : Outcome). o.status) (λ (o : Outcome). o.cache) false None S (query_call_process d call q.shape (view_of q) S c) h.0 (call_own d call q.shape (view_of q) S c)
     by_number false rest = rest
 
 ping_plain : is_plain (class ping_view.sql) ≡ true
@@ -154,6 +155,10 @@ verb_clean (verbs.Block kind) reply status = tt
 verb_clean verbs.End reply status = tt
 verb_clean verbs.Fail reply status = tt
 verb_clean (verbs.Query query_calls.Exec n) reply status = tt
+verb_clean (verbs.Query query_calls.Load n) reply status = tt
+verb_clean (verbs.Query query_calls.Each n) reply status = tt
+verb_clean (verbs.Query query_calls.One n) reply status = tt
+verb_clean (verbs.Query query_calls.Optional n) reply status = tt
 verb_clean (verbs.Cache size) reply status = tt
 verb_clean verbs.Ping reply status = tt
 
@@ -185,6 +190,9 @@ sends_stack replies.NotOut k = refl
 sends_stack replies.NoneFree k = refl
 sends_stack replies.Skipped k = refl
 sends_stack (replies.Count n) k = refl
+sends_stack (replies.Rows rows) k = refl
+sends_stack (replies.OneRow row) k = refl
+sends_stack replies.NoRow k = refl
 sends_stack (replies.Error e) k = refl
 sends_stack (replies.Pool e) k = refl
 

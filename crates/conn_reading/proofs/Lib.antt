@@ -45,3 +45,4 @@ pub mod SessionExamples
 pub mod SetupExamples
 pub mod LookExamples
 pub mod QueryExamples
+pub mod LoadExamples

@@ -43,7 +43,7 @@ use Rattle.conn_reading.proofs.Rising.{RisesTo, texts_unnamed}
 declared_looks : (d : Dialect) (call : QueryCall) (o : Option Declared) (S : Status) (c : Known) → LooksWell false (declared_process d call o S c)
 declared_looks d call None S c = tt
 declared_looks d call (Some q) S c =
-    so_looks (IsOwn d (view_of q) c.register) false (query_call_process d call (view_of q) S c) (own_so d (view_of q) c.register (λ (o : Outcome). o.status) (λ (o : Outcome). o.cache) false None S (query_call_process d call (view_of q) S c) (call_own d call (view_of q) S c))
+    so_looks (IsOwn d (view_of q) c.register) false (query_call_process d call q.shape (view_of q) S c) (own_so d (view_of q) c.register (λ (o : Outcome). o.status) (λ (o : Outcome). o.cache) false None S (query_call_process d call q.shape (view_of q) S c) (call_own d call q.shape (view_of q) S c))
 
 told_looks : (c : Known) (p : Process Done) → Texts false p → LooksWell false (map_process (told_as c) p)
 told_looks c p w = so_looks (λ call text. IsText call) false (map_process (told_as c) p) (texts_map (told_as c) false p w)
@@ -127,7 +127,7 @@ declared_owns d s call None c S items a end reads =
       names = subst (λ (l : List Item). RisesTo c.register.counter (names_of l) a.cache.register.counter) (sym h.none) none;
     }
 declared_owns d s call (Some q) c S items a end reads =
-    let h = query_owns d s (view_of q) c S (query_call_process d call (view_of q) S c) items a end (call_own d call (view_of q) S c) reads in
+    let h = query_owns d s (view_of q) c S (query_call_process d call q.shape (view_of q) S c) items a end (call_own d call q.shape (view_of q) S c) reads in
     record { own = h.own; register = h.register; names = h.names }
 
 counter_sized : (size : CacheSize) (r : Register) → (register_sized size r).counter ≡ r.counter

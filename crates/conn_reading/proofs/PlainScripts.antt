@@ -9,12 +9,12 @@ use Rattle.std.proofs.lemmas.Slice.Eq.{bytes_eq-Decides}
 use Rattle.conn_model.specs.Classes.{class, begins, is_begin, is_built, is_write, same_text, number_behind}
 use Rattle.conn_model.specs.Numbers.{number}
 use Rattle.conn_script.specs.Binds.{binds_named}
-use Rattle.conn_script.specs.Drafts.{Draft, empty_draft, command_added, with_command, query_added, with_query, with_refused, can_close, if_closable}
-use Rattle.conn_script.specs.Grammar.{connection_alone, size_named, block_named, act_from, act_of, with_words, with_text, next, lines_of, judged_last, or_bad, judged, script_of}
+use Rattle.conn_script.specs.Drafts.{Draft, empty_draft, command_added, with_command, query_added, with_query, with_refused, with_refused_row, with_row, can_close, if_closable}
+use Rattle.conn_script.specs.Grammar.{connection_alone, query_call, size_named, block_named, act_from, act_of, with_act, with_declared, with_query_row, with_query_words, with_refusal, with_row_refusal, with_words, with_text, next, lines_of, judged_last, or_bad, judged, script_of}
 use Rattle.conn_script.specs.Options.{◌>>=◌, guard}
 use Rattle.conn_script.specs.Fields.{number_at, session_dialect, word_at}
-use Rattle.conn_script.specs.Plans.{refused_of}
-use Rattle.conn_script.specs.Queries.{declared_by, declared_of, id_at, is_query_text, safety_at}
+use Rattle.conn_script.specs.Plans.{query_row_of, refused_of, refused_row_of}
+use Rattle.conn_script.specs.Queries.{declared_by, declared_of, id_at, is_query_text, query_text, safety_at}
 use Rattle.conn_script.specs.Requests.{request_of}
 use Rattle.conn_script.specs.Shapes.{shape_named}
 use Rattle.conn_script.specs.Spelling.{word_named}
@@ -22,6 +22,8 @@ use Rattle.conn_script.specs.Words.{split_at, is_statement, begins_statement, ha
 use Rattle.conn_script.specs.declared.command.Act.{Act}
 use Rattle.conn_script.specs.declared.command.Act.TheVariants as acts
 use Rattle.conn_script.specs.declared.command.Command.{Command}
+use Rattle.conn_script.specs.declared.command.QueryCall.{QueryCall}
+use Rattle.conn_script.specs.declared.command.QueryCall.TheVariants as query_calls
 use Rattle.conn_script.specs.declared.command.Script.{Script}
 use Rattle.conn_script.specs.declared.command.Word.{Word}
 use Rattle.conn_script.specs.declared.command.Word.TheVariants as words
@@ -124,6 +126,10 @@ there_guarded Q false x f h = tt
 abbrev pub ActPlain : Act → Type 0
 ActPlain act = AsksPlain (request_of act)
 
+query_call_plain : (call : QueryCall) (rest : Option (List ℕ)) → IfThere ActPlain (query_call call rest)
+query_call_plain call rest =
+    there_bind ActPlain rest _ (λ text. there_bind ActPlain (number 4294967296 (split_at 32 text).0) _ (λ c. there_bind ActPlain (split_at 32 text).1 _ (λ query. there_bind ActPlain (number 4294967296 query) _ (λ q. tt))))
+
 act_plain : (word : Word) (rest : Option (List ℕ)) → IfThere ActPlain (act_from word rest)
 act_plain words.Get rest = there_guard ActPlain (is_none rest) acts.Get (λ e. tt)
 act_plain words.Put rest = there_map ActPlain (connection_alone rest) acts.Put (λ n. tt)
@@ -134,8 +140,11 @@ act_plain words.Begin rest = there_map ActPlain (connection_alone rest) acts.Beg
 act_plain words.Commit rest = there_map ActPlain (connection_alone rest) acts.Commit (λ n. tt)
 act_plain words.Rollback rest = there_map ActPlain (connection_alone rest) acts.Rollback (λ n. tt)
 act_plain words.TestBegin rest = there_map ActPlain (connection_alone rest) acts.TestBegin (λ n. tt)
-act_plain words.Exec rest =
-    there_bind ActPlain rest _ (λ text. there_bind ActPlain (number 4294967296 (split_at 32 text).0) _ (λ c. there_bind ActPlain (split_at 32 text).1 _ (λ query. there_bind ActPlain (number 4294967296 query) _ (λ q. tt))))
+act_plain words.Exec rest = query_call_plain query_calls.Exec rest
+act_plain words.Load rest = query_call_plain query_calls.Load rest
+act_plain words.Each rest = query_call_plain query_calls.Each rest
+act_plain words.One rest = query_call_plain query_calls.One rest
+act_plain words.Optional rest = query_call_plain query_calls.Optional rest
 act_plain words.CacheSize rest =
     there_bind ActPlain rest _ (λ text. there_bind ActPlain (number 4294967296 (split_at 32 text).0) _ (λ c. there_bind ActPlain ((split_at 32 text).1 >>= size_named) _ (λ size. tt)))
 act_plain words.Ping rest = there_map ActPlain (connection_alone rest) acts.Ping (λ n. tt)
@@ -169,15 +178,38 @@ declared_plain rest =
 abbrev pub DraftPlain : Draft → Type 0
 DraftPlain d = ScriptPlain d.script
 
+-- a line more of the plan leaves the texts
+refusal_plain : (d : Draft) (rest : Option (List ℕ)) → DraftPlain d → IfThere DraftPlain (with_refusal d rest)
+refusal_plain d rest h = there_bind DraftPlain (refused_of d.script.dialect rest) (with_refused d) (λ r. there_guard DraftPlain _ _ (λ e. h))
+
+row_refusal_plain : (d : Draft) (rest : Option (List ℕ)) → DraftPlain d → IfThere DraftPlain (with_row_refusal d rest)
+row_refusal_plain d rest h = there_bind DraftPlain (refused_row_of d.script.dialect rest) (with_refused_row d) (λ r. there_guard DraftPlain _ _ (λ e. h))
+
+query_row_plain : (d : Draft) (rest : Option (List ℕ)) → DraftPlain d → IfThere DraftPlain (with_query_row d rest)
+query_row_plain d rest h = there_bind DraftPlain (query_row_of rest) (with_row d) (λ r. there_bind DraftPlain (query_text d.script.queries r.query) _ (λ text. there_guard DraftPlain _ _ (λ e. h)))
+
+query_plain : (d : Draft) (rest : Option (List ℕ)) → DraftPlain d → IfThere DraftPlain (with_declared d rest)
+query_plain d rest h =
+    there_bind_if QueryPlain DraftPlain (declared_of rest) (with_query d) (declared_plain rest) (λ q g. there_guard DraftPlain _ (query_added d q) (λ e. (h.0, each-append QueryPlain d.script.queries (q ∷ []) h.1 (g, tt))))
+
+command_plain : (n : ℕ) (d : Draft) (first : List ℕ) (rest : Option (List ℕ)) → DraftPlain d → IfThere DraftPlain (with_act n d first rest)
+command_plain n d first rest h =
+    there_bind_if ActPlain DraftPlain (act_of first rest) (with_command n d) (there_bind ActPlain (word_named first) (λ word. act_from word rest) (λ word. act_plain word rest))
+    (λ act g. there_guard DraftPlain _ (command_added n d act) (λ e. (plain-append d.script.commands (record { line = n; act = act } ∷ []) h.0 (g, tt), h.1)))
+
+-- either of two
+there_either : (b : Bool) (o p : Option Draft) → IfThere DraftPlain o → IfThere DraftPlain p → IfThere DraftPlain (if b then o else p)
+there_either true o p h g = h
+there_either false o p h g = g
+
+query_words_plain : (n : ℕ) (d : Draft) (first : List ℕ) (rest : Option (List ℕ)) → DraftPlain d → IfThere DraftPlain (with_query_words n d first rest)
+query_words_plain n d first rest h =
+    there_either (bytes_eq first (codes "query")) (with_declared d rest) _ (query_plain d rest h) (there_either (bytes_eq first (codes "row")) (with_query_row d rest) _ (query_row_plain d rest h) (command_plain n d first rest h))
+
 words_plain : (n : ℕ) (d : Draft) (line : List ℕ × Option (List ℕ)) → DraftPlain d → IfThere DraftPlain (with_words n d line)
-words_plain n d line h = by_word (bytes_eq line.0 (codes "refuse")) (bytes_eq line.0 (codes "query"))
-  where
-    by_word : (b c : Bool) → IfThere DraftPlain (if b then (refused_of d.script.dialect line.1 >>= with_refused d) else if c then (declared_of line.1 >>= with_query d) else (act_of line.0 line.1 >>= with_command n d))
-    by_word true c = there_bind DraftPlain (refused_of d.script.dialect line.1) (with_refused d) (λ r. there_guard DraftPlain _ _ (λ e. h))
-    by_word false true = there_bind_if QueryPlain DraftPlain (declared_of line.1) (with_query d) (declared_plain line.1)
-        (λ q g. there_guard DraftPlain _ (query_added d q) (λ e. (h.0, each-append QueryPlain d.script.queries (q ∷ []) h.1 (g, tt))))
-    by_word false false = there_bind_if ActPlain DraftPlain (act_of line.0 line.1) (with_command n d) (there_bind ActPlain (word_named line.0) (λ word. act_from word line.1) (λ word. act_plain word line.1))
-        (λ act g. there_guard DraftPlain _ (command_added n d act) (λ e. (plain-append d.script.commands (record { line = n; act = act } ∷ []) h.0 (g, tt), h.1)))
+words_plain n d line h =
+    there_either (bytes_eq line.0 (codes "refuse")) (with_refusal d line.1) _ (refusal_plain d line.1 h)
+    (there_either (bytes_eq line.0 (codes "refuserow")) (with_row_refusal d line.1) _ (row_refusal_plain d line.1 h) (query_words_plain n d line.0 line.1 h))
 
 text_plain : (n : ℕ) (d : Draft) (line : List ℕ) → DraftPlain d → IfThere DraftPlain (with_text n d line)
 text_plain n d line h = there_bind_if DraftPlain DraftPlain (with_words n d (split_at 32 line)) if_closable (words_plain n d (split_at 32 line) h) (λ e g. there_guard DraftPlain (can_close e) e (λ c. g))

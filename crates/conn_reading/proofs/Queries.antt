@@ -1,8 +1,9 @@
 -- What a query asks: calls of its own, whose texts ask nothing of a transaction, and rows only after an item; and what becomes of
 -- the cache.
-use Rattle.std.proofs.Common.{◌≡◌, ℕ, ◌+◌, Bool, true, false, List, [], ◌∷◌, ◌++◌, Option, Some, None, inl, inr, refl, sym, ap, subst, ◌∙◌, arith}
+use Rattle.std.proofs.Common.{◌≡◌, ℕ, ◌+◌, Bool, true, false, List, [], ◌∷◌, ◌++◌, Option, Some, None, Result, inl, inr, refl, sym, ap, subst, ◌∙◌, arith}
 use Rattle.std.specs.Prelude.{⊤, if◌then◌else◌, is_none}
 use Rattle.conn_result.specs.declared.error.Error.{Error}
+use Rattle.conn_model.specs.Armed.{Values}
 use Rattle.conn_model.specs.Classes.{class, begins, is_begin, is_built, is_write, same_text, number_behind}
 use Rattle.conn_model.specs.Process.{Process, Stop, Ask, Look, Tell, Heard, given_rows, map_process, plain_heard, refusal_of}
 use Rattle.conn_model.specs.States.{State, told_of}
@@ -18,20 +19,23 @@ use Rattle.conn_model.specs.declared.value.BindType.{BindType}
 use Rattle.conn_manager.specs.Statuses.{Status, retold}
 use Rattle.conn_server.specs.Logged.{is_accepted}
 use Rattle.conn_model.specs.Caches.{Known, Register}
+use Rattle.conn_cache.specs.LoadProcesses.{load_process, looked, looks, rows_heard}
 use Rattle.conn_cache.specs.QueryProcesses.{Asked, asked_without_value, columns_at, counted, execute_process, lacks_metadata, ping_process, ping_view, prepared, query_process, ran, runs, runs_due, runs_plain, runs_with, types_for, unless_fault, with_new}
 use Rattle.conn_cache.specs.Faults.{query_fault}
 use Rattle.conn_cache.specs.QueryViews.{QueryView}
 use Rattle.conn_cache.specs.Registers.{due}
 use Rattle.conn_cache.specs.declared.entry.Due.{Due}
 use Rattle.conn_cache.specs.declared.entry.Due.TheVariants as dues
+use Rattle.conn_report.specs.declared.entry.Reply.{Reply}
 use Rattle.conn_report.specs.declared.entry.Reply.TheVariants as replies
 use Rattle.conn_script.specs.declared.query.Declared.{Declared}
 use Rattle.conn_script.specs.declared.command.QueryCall.{QueryCall}
 use Rattle.conn_script.specs.declared.command.QueryCall.TheVariants as query_calls
-use Rattle.conn_reading.specs.Asking.{Outcome, asked_as, process_of, query_call_process}
+use Rattle.conn_reading.specs.Asking.{Outcome, asked_as, list_reply, loaded_as, one_reply, optional_reply, process_of, query_call_process, rows_process}
 use Rattle.conn_reading.specs.Owning.{IsNamed, IsOwn, given_by, last_given, name_given, names_of, register_given}
-use Rattle.conn_reading.specs.Plainly.{Plainly, looked}
+use Rattle.conn_reading.specs.Plainly.{Plainly}
 use Rattle.conn_reading.specs.Reading.{Reads, heard_with}
+use Rattle.conn_reading.specs.RowShapes.{RowShape}
 use Rattle.conn_reading.specs.Verdicts.{is_plain}
 use Rattle.conn_reading.specs.declared.deed.Deed.TheVariants as deeds
 use Rattle.conn_reading.proofs.Looks.{AsksSo}
@@ -240,9 +244,20 @@ DeedAsksOwn d q c S p = AsksOwn d q c.register (λ (o : Outcome). o.status) (λ 
 execute_own : (d : Dialect) (q : QueryView) (S : Status) (c : Known) → AsksOwn d q c.register (λ (a : Asked ℕ). a.status) (λ (a : Asked ℕ). a.cache) false None S (execute_process d q S c)
 execute_own d q S c = query_own false d q (counted q) c (λ n S1 c1 g h. (refl, h)) S
 
-pub call_own : (d : Dialect) (call : QueryCall) (q : QueryView) (S : Status) (c : Known) → DeedAsksOwn d q c S (query_call_process d call q S c)
-call_own d query_calls.Exec q S c =
+load_own : (d : Dialect) (q : QueryView) (S : Status) (c : Known) → AsksOwn d q c.register (λ (a : Asked (List Values)). a.status) (λ (a : Asked (List Values)). a.cache) false None S (load_process rows_heard d q S c)
+load_own d q S c = query_own true d q (looks rows_heard d q) c (λ n S1 c1 g h. (refl, λ x. (refl, h))) S
+
+rows_own : (reply : Result (List Values) Error → Reply) (d : Dialect) (q : QueryView) (S : Status) (c : Known) → DeedAsksOwn d q c S (rows_process reply d q S c)
+rows_own reply d q S c =
+    own_map (loaded_as reply) d q c.register (λ (a : Asked (List Values)). a.status) (λ (a : Asked (List Values)). a.cache) (λ (o : Outcome). o.status) (λ (o : Outcome). o.cache) (λ a. refl) (λ a. refl) false None S (load_process rows_heard d q S c) (load_own d q S c)
+
+pub call_own : (d : Dialect) (call : QueryCall) (shape : RowShape) (q : QueryView) (S : Status) (c : Known) → DeedAsksOwn d q c S (query_call_process d call shape q S c)
+call_own d query_calls.Exec shape q S c =
     own_map (asked_as replies.Count) d q c.register (λ (a : Asked ℕ). a.status) (λ (a : Asked ℕ). a.cache) (λ (o : Outcome). o.status) (λ (o : Outcome). o.cache) (λ a. refl) (λ a. refl) false None S (execute_process d q S c) (execute_own d q S c)
+call_own d query_calls.Load shape q S c = rows_own (list_reply shape) d q S c
+call_own d query_calls.Each shape q S c = rows_own (list_reply shape) d q S c
+call_own d query_calls.One shape q S c = rows_own (one_reply shape) d q S c
+call_own d query_calls.Optional shape q S c = rows_own (optional_reply shape) d q S c
 
 pub ping_own : (d : Dialect) (queries : List Declared) (S : Status) (c : Known) → DeedAsksOwn d ping_view c S (process_of d queries S c deeds.Ping)
 ping_own d queries S c =

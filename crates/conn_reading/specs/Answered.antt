@@ -4,7 +4,7 @@ use Rattle.std.specs.Option.{option_map, option_and_then}
 use Rattle.conn_result.specs.declared.error.ConnectionError.{ConnectionError}
 use Rattle.conn_result.specs.declared.error.ConnectionError.TheVariants.{BadConnection, CouldntSetupConfiguration}
 use Rattle.conn_result.specs.declared.error.Error.{Error}
-use Rattle.conn_model.specs.Armed.{Armed}
+use Rattle.conn_model.specs.Armed.{Armed, armed_of}
 use Rattle.conn_model.specs.States.{Idle}
 use Rattle.conn_model.specs.declared.item.Dialect.{Dialect}
 use Rattle.conn_model.specs.declared.item.Item.{Item}
@@ -199,7 +199,7 @@ whole run = if all_read run.progress.context.opened run.left then Some run.entri
 
 -- nothing is open yet
 abbrev pub started : Script → Progress
-started script = record { context = at_first; attempts = 0; plan = script.plan; armed = []; queries = script.queries; dialect = script.dialect; url = script.url }
+started script = record { context = at_first; attempts = 0; plan = script.plan; armed = armed_of script.plan; queries = script.queries; dialect = script.dialect; url = script.url }
 
 -- a script's commands over the logs of its servers, by their numbers
 abbrev pub run_of : Script → ServerLogs → Option Run

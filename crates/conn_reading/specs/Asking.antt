@@ -2,24 +2,30 @@
 use Rattle.std.specs.Prelude.{ℕ, ◌==◌, Bool, true, false, List, [], ◌∷◌, map, Option, Some, None, Result, Ok, Err, if◌then◌else◌}
 use Rattle.conn_result.specs.declared.error.Error.{Error}
 use Rattle.conn_result.specs.declared.error.Error.TheVariants.{NotFound}
+use Rattle.conn_result.specs.Optional.{optional}
+use Rattle.conn_model.specs.Armed.{Values}
 use Rattle.conn_model.specs.Process.{Process, Stop, map_process}
 use Rattle.conn_model.specs.declared.item.Dialect.{Dialect}
 use Rattle.conn_model.specs.declared.value.Bind.{Bind}
 use Rattle.conn_model.specs.Caches.{Known}
 use Rattle.conn_cache.specs.QueryProcesses.{Asked, execute_process, ping_process, resized}
+use Rattle.conn_cache.specs.LoadProcesses.{load_process, rows_heard}
 use Rattle.conn_cache.specs.QueryViews.{QueryView}
+use Rattle.conn_drivers.specs.Loaded.{made_of}
 use Rattle.conn_manager.specs.Manages.{Done, done, Reply as Answer, send_process, begin_process, begin_test_process, commit_process, rollback_process}
 use Rattle.conn_manager.specs.Statuses.{Status}
 use Rattle.conn_manager.specs.Transactions.{is_broken_error}
 use Rattle.conn_report.specs.declared.entry.Reply.{Reply}
 use Rattle.conn_report.specs.declared.entry.Reply.TheVariants as replies
+use Rattle.conn_rows.specs.Lists.{first_answer, list_answer}
 use Rattle.conn_script.specs.declared.command.BlockKind.{BlockKind}
 use Rattle.conn_script.specs.declared.command.BlockKind.TheVariants.{Plain, Test}
 use Rattle.conn_script.specs.declared.query.Declared.{Declared}
 use Rattle.conn_script.specs.declared.command.QueryCall.{QueryCall}
-use Rattle.conn_script.specs.declared.command.QueryCall.TheVariants.{Exec}
+use Rattle.conn_script.specs.declared.command.QueryCall.TheVariants.{Exec, Load, Each, One, Optional}
 use Rattle.conn_script.specs.declared.query.Safety.{Safety}
 use Rattle.conn_script.specs.declared.query.Safety.TheVariants.{Safe, Unsafe, NoChange}
+use Rattle.conn_reading.specs.RowShapes.{RowShape, shape_reads}
 use Rattle.conn_reading.specs.declared.deed.Deed.{Deed}
 use Rattle.conn_reading.specs.declared.deed.Deed.TheVariants as deeds
 
@@ -94,14 +100,47 @@ abbrev pub find_query : ℕ → List Declared → Option Declared
 find_query n [] = None
 find_query n (q ∷ qs) = if q.number == n then Some q else find_query n qs
 
--- what is made of a query
-abbrev pub query_call_process : Dialect → QueryCall → QueryView → Status → Known → Process Outcome
-query_call_process d Exec q s c = map_process (asked_as replies.Count) (execute_process d q s c)
+-- the reply to a query all of whose rows are loaded
+abbrev pub list_reply : RowShape → Result (List Values) Error → Reply
+list_reply shape rows = reply_made replies.Rows (made_of (list_answer (shape_reads shape)) rows)
+
+-- what the first row is, or an error
+abbrev pub first_of : RowShape → Result (List Values) Error → Result Values Error
+first_of shape rows = made_of (first_answer (shape_reads shape)) rows
+
+-- the reply to a query whose first row is to be there
+abbrev pub one_reply : RowShape → Result (List Values) Error → Reply
+one_reply shape rows = reply_made replies.OneRow (first_of shape rows)
+
+-- a row, or that there is none
+abbrev pub row_reply : Option Values → Reply
+row_reply None = replies.NoRow
+row_reply (Some row) = replies.OneRow row
+
+-- the reply to a query whose first row may be missing
+abbrev pub optional_reply : RowShape → Result (List Values) Error → Reply
+optional_reply shape rows = reply_made row_reply (optional (first_of shape rows))
+
+-- the outcome of a query whose rows are loaded
+abbrev pub loaded_as : (Result (List Values) Error → Reply) → Asked (List Values) → Outcome
+loaded_as reply a = outcome (reply a.reply) a.status a.cache
+
+-- a query whose rows are loaded
+abbrev pub rows_process : (Result (List Values) Error → Reply) → Dialect → QueryView → Status → Known → Process Outcome
+rows_process reply d q s c = map_process (loaded_as reply) (load_process rows_heard d q s c)
+
+-- what is made of a query whose rows have this shape
+abbrev pub query_call_process : Dialect → QueryCall → RowShape → QueryView → Status → Known → Process Outcome
+query_call_process d Exec shape q s c = map_process (asked_as replies.Count) (execute_process d q s c)
+query_call_process d Load shape q s c = rows_process (list_reply shape) d q s c
+query_call_process d Each shape q s c = rows_process (list_reply shape) d q s c
+query_call_process d One shape q s c = rows_process (one_reply shape) d q s c
+query_call_process d Optional shape q s c = rows_process (optional_reply shape) d q s c
 
 -- the same of one that a script has, as it has each that its commands name
 abbrev pub declared_process : Dialect → QueryCall → Option Declared → Status → Known → Process Outcome
 declared_process d call None s c = Stop (outcome (replies.Error NotFound) s c)
-declared_process d call (Some q) s c = query_call_process d call (view_of q) s c
+declared_process d call (Some q) s c = query_call_process d call q.shape (view_of q) s c
 
 -- ---- all deeds
 

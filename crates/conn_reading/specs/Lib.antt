@@ -3,6 +3,8 @@ pub mod Calls
 pub mod Reading
 pub mod Verdicts
 pub mod Plainly
+pub mod RowShapes
+pub mod RowShapeLaws
 pub mod Asking
 pub mod Seats
 pub mod Answered

@@ -1,17 +1,11 @@
 -- Calls that send texts which ask nothing of a transaction, and follow what the server tells.
-use Rattle.std.specs.Prelude.{◌≡◌, true, Option, Some, None}
+use Rattle.std.specs.Prelude.{◌≡◌, true}
 use Rattle.conn_model.specs.Classes.{class}
 use Rattle.conn_model.specs.Process.{Process, Stop, Ask, Look, Tell, Heard}
 use Rattle.conn_model.specs.declared.item.Dialect.{Dialect}
-use Rattle.conn_model.specs.declared.item.Refusal.{Refusal}
-use Rattle.conn_model.specs.declared.item.Told.{Told}
 use Rattle.conn_manager.specs.Statuses.{Status, retold}
+use Rattle.conn_cache.specs.LoadProcesses.{looked}
 use Rattle.conn_reading.specs.Verdicts.{is_plain}
-
--- the status follows a refused row; rows that were given tell nothing
-abbrev pub looked : Dialect → Option Refusal → Told → Status → Status
-looked d None told s = s
-looked d (Some r) told s = retold d (Some r) told s
 
 module _ {A : Type 0} (d : Dialect) (status : A → Status) where
   -- it sends plain texts, and ends with the status that the items tell

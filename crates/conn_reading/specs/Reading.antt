@@ -1,13 +1,12 @@
 -- A process reads a finished log, item by item, from a state.
-use Rattle.std.specs.Prelude.{◌≡◌, ◌&&◌, ℕ, Bool, true, false, ◌⊎◌, ⊤, List, [], ◌∷◌, ◌++◌, if◌then◌else◌, Option, Some, None}
+use Rattle.std.specs.Prelude.{◌≡◌, ◌&&◌, ℕ, false, ◌⊎◌, ⊤, List, [], ◌∷◌, ◌++◌, if◌then◌else◌, Option, Some, None}
 use Rattle.std.specs.Option.{option_and_then}
 use Rattle.std.specs.Str.{bytes_eq}
+pub use Rattle.conn_model.specs.Obeyed.{is_fetch}
 use Rattle.conn_model.specs.Armed.{Armed, Values, rows_of}
 use Rattle.conn_model.specs.Process.{Process, Stop, Ask, Look, Tell, Heard, plain_heard, given_rows, heard_of, refusal_of, row_refused}
 use Rattle.conn_model.specs.States.{State, step, told_of}
 use Rattle.conn_model.specs.declared.item.Answer.{Answer}
-use Rattle.conn_model.specs.declared.item.Call.{Call}
-use Rattle.conn_model.specs.declared.item.Call.TheVariants.{Fetch}
 use Rattle.conn_model.specs.declared.item.Dialect.{Dialect}
 use Rattle.conn_model.specs.declared.item.Effect.{Effect}
 use Rattle.conn_model.specs.declared.item.Item.{Item}
@@ -19,11 +18,6 @@ pub record Read (A : Type 0) : Type 0 where
   pub value : A
   pub state : State
   pub left : List Item
-
--- a row was asked
-abbrev pub is_fetch : Call → Bool
-is_fetch Fetch = true
-is_fetch _ = false
 
 -- the next item is the one that is asked, and the process goes on by what its caller heard; none where the item isn't there
 -- or isn't allowed in the state before it. Where rows are asked, the next item is read where it is a refused row; else they

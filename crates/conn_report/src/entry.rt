@@ -1,12 +1,16 @@
 //! What the commands of a session gave.
 use crate::Texts;
 use conn_manager::TransactionManagerStatus;
+use conn_model::Row;
 use conn_result::{ConnectionError, Error};
 use conn_script::Word;
 use sqlite_items::Items;
 
+/// Rows in order, seen as a list.
+pub type Rows = Items<Row>;
+
 /// The reply to a command.
-#[derive(Clone, Copy, Debug)]
+#[derive(Debug, Drop)]
 pub enum Reply {
     Ok,
     /// The pool kept the connection.
@@ -15,6 +19,12 @@ pub enum Reply {
     Closed,
     /// How many rows a query affected.
     Count(u64),
+    /// The rows of a query.
+    Rows(Rows),
+    /// The first row of a query.
+    OneRow(Row),
+    /// A query had no row.
+    NoRow,
     /// The named connection isn't handed out.
     NotOut,
     /// No slot of the pool is free.
@@ -28,7 +38,7 @@ pub enum Reply {
 
 /// What one command gave: the script's line, its first word, the connection, the reply, and, where a connection was there,
 /// its tracked status and the number of items of its server after the command.
-#[derive(Clone, Copy, Debug)]
+#[derive(Debug, Drop)]
 pub struct Entry {
     pub line: u32,
     pub word: Word,

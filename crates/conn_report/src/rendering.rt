@@ -1,41 +1,15 @@
 //! The text of a report.
 ghost use Rattle.std.specs.Prelude.{◌≡◌, ◌≤◌, ◌+◌, ◌++◌, length, drop, codes, decimal, IfOk, IfSome, OnOk};
 ghost use Rattle.conn_script.specs.Spelling.{word_text};
-ghost use Rattle.conn_report.specs.Report.{or_dash, reply_text, words_if, depth_text, status_text, entry_head, entry_end, entry_line, write_line, server_lines, last_line, report};
+ghost use Rattle.conn_report.specs.Report.{connection_error_text, error_text, or_dash, reply_text, words_if, depth_text, status_text, entry_head, entry_end, entry_line, write_line, server_lines, last_line, report};
 
 use crate::errors::{ConnectionErrorText, ErrorText};
+use crate::rows::{push_one_row, push_rows};
 use crate::{Entry, Reply, Texts, Transcript, Word};
 use conn_manager::{InTransactionStatus, TransactionManagerStatus};
+use conn_result::{ConnectionError, Error};
 use itoa::{Buffer, write_digits};
 use std::alloc::{AllocError, Global};
-use std::fmt;
-
-impl fmt::Display for Reply {
-    ghost use Rattle.std.specs.Prelude.{Some};
-    ghost use Rattle.conn_report.specs.Report.{reply_text};
-
-    ghost output = { λ r. Some (reply_text r) };
-
-    fn fmt<W: fmt::Write>(&self, f: &mut fmt::Formatter<W>) -> fmt::Result {
-        match *self {
-            Reply::Ok => write!(f, "ok"),
-            Reply::Kept => write!(f, "kept"),
-            Reply::Closed => write!(f, "closed"),
-            Reply::Count(n) => write!(f, "count {n}"),
-            Reply::NotOut => write!(f, "notout"),
-            Reply::NoneFree => write!(f, "nonefree"),
-            Reply::Skipped => write!(f, "skipped"),
-            Reply::Error(error) => write!(f, "error {}", ErrorText(error)),
-            Reply::Pool(error) => {
-                write!(
-                    f,
-                    "poolerror ConnectionError {}",
-                    ConnectionErrorText(error)
-                )
-            }
-        }
-    }
-}
 
 /// Writes the words so that they end at `end`, and answers where they start.
 #[inline(always)]
@@ -151,6 +125,10 @@ fn put_word(place: &mut [u8], end: usize, word: Word) -> usize
         Word::Rollback => put(place, end, Word::Rollback.name().as_bytes()),
         Word::TestBegin => put(place, end, Word::TestBegin.name().as_bytes()),
         Word::Exec => put(place, end, Word::Exec.name().as_bytes()),
+        Word::Load => put(place, end, Word::Load.name().as_bytes()),
+        Word::Each => put(place, end, Word::Each.name().as_bytes()),
+        Word::One => put(place, end, Word::One.name().as_bytes()),
+        Word::Optional => put(place, end, Word::Optional.name().as_bytes()),
         Word::CacheSize => put(place, end, Word::CacheSize.name().as_bytes()),
         Word::Ping => put(place, end, Word::Ping.name().as_bytes()),
         Word::Transaction => put(place, end, Word::Transaction.name().as_bytes()),
@@ -199,27 +177,28 @@ fn put_count(place: &mut [u8], end: usize, n: u64) -> usize
     put(place, at, b" | count ")
 }
 
-/// The same of a reply that is no error, and `None` for another.
-fn put_reply(place: &mut [u8], end: usize, reply: Reply) -> Option<usize>
+/// The same of a reply that is neither rows nor an error, and `None` for another.
+fn put_reply(place: &mut [u8], end: usize, reply: &Reply) -> Option<usize>
     requires { (32 ≤ end) × (end ≤ length place.old) }
     ensures room { IfSome result (λ at. (end ≤ at + 32) × (at ≤ end)) }
     ensures written { IfSome result (λ at. drop at place.new
-        ≡ codes " | " ++ reply_text reply ++ drop end place.old) }
+        ≡ codes " | " ++ reply_text reply.now ++ drop end place.old) }
     ensures len { length place.new ≡ length place.old }
 {
     match reply {
         Reply::Ok => Some(put(place, end, b" | ok")),
         Reply::Kept => Some(put(place, end, b" | kept")),
         Reply::Closed => Some(put(place, end, b" | closed")),
-        Reply::Count(n) => Some(put_count(place, end, n)),
+        Reply::Count(n) => Some(put_count(place, end, *n)),
+        Reply::NoRow => Some(put(place, end, b" | none")),
         Reply::NotOut => Some(put(place, end, b" | notout")),
         Reply::NoneFree => Some(put(place, end, b" | nonefree")),
         Reply::Skipped => Some(put(place, end, b" | skipped")),
-        Reply::Error(_) | Reply::Pool(_) => None,
+        Reply::Rows(_) | Reply::OneRow(_) | Reply::Error(_) | Reply::Pool(_) => None,
     }
 }
 
-/// Writes the entry's line to the end of the place and answers where it starts, where its reply is no error.
+/// Writes the entry's line to the end of the place and answers where it starts, where its reply is neither rows nor an error.
 fn put_entry(place: &mut [u8], entry: &Entry) -> Option<usize>
     requires { 168 ≤ length place.old }
     ensures room { IfSome result (λ at. at ≤ length place.new) }
@@ -227,7 +206,7 @@ fn put_entry(place: &mut [u8], entry: &Entry) -> Option<usize>
 {
     let end = place.len();
     let at = put_end(place, end, entry);
-    let at = put_reply(place, at, entry.reply)?;
+    let at = put_reply(place, at, &entry.reply)?;
     Some(put_head(place, at, entry))
 }
 
@@ -250,20 +229,62 @@ fn push_end(out: &mut Vec<u8>, entry: &Entry) -> Result<(), AllocError>
     out.extend_from_slice(&place[at..])
 }
 
-/// Adds the text of a reply.
-fn push_reply(alloc: Global, out: &mut Vec<u8>, reply: Reply) -> Result<(), AllocError>
-    ensures { OnOk result (out.new.items ≡ out.old.items ++ reply_text reply) }
+/// Adds how many rows a query affected.
+fn push_count(out: &mut Vec<u8>, n: u64) -> Result<(), AllocError>
+    ensures { OnOk result (out.new.items ≡ out.old.items ++ codes "count " ++ decimal n) }
 {
-    let text = format!(in alloc; "{reply}")?;
+    let mut digits = Buffer::new();
+    out.extend_from_slice(b"count ")?;
+    out.extend_from_slice(digits.format(n).as_bytes())
+}
+
+/// Adds the text of an error.
+fn push_error(alloc: Global, out: &mut Vec<u8>, error: Error) -> Result<(), AllocError>
+    ensures { OnOk result (out.new.items ≡ out.old.items ++ codes "error " ++ error_text error) }
+{
+    let text = format!(in alloc; "error {}", ErrorText(error))?;
     out.extend_from_slice(text.as_bytes())
 }
 
-/// Adds the line of an entry whose reply is an error.
-fn push_refused(alloc: Global, out: &mut Vec<u8>, entry: &Entry) -> Result<(), AllocError>
+/// Adds why the pool opened no connection.
+fn push_pool_error(
+    alloc: Global,
+    out: &mut Vec<u8>,
+    error: ConnectionError,
+) -> Result<(), AllocError>
+    ensures { OnOk result (out.new.items ≡ out.old.items
+        ++ codes "poolerror ConnectionError " ++ connection_error_text error) }
+{
+    let text = format!(in alloc; "poolerror ConnectionError {}", ConnectionErrorText(error))?;
+    out.extend_from_slice(text.as_bytes())
+}
+
+/// Adds the text of a reply.
+pub fn push_reply(alloc: Global, out: &mut Vec<u8>, reply: &Reply) -> Result<(), AllocError>
+    ensures { OnOk result (out.new.items ≡ out.old.items ++ reply_text reply.now) }
+{
+    match reply {
+        Reply::Rows(rows) => push_rows(alloc, out, rows),
+        Reply::OneRow(row) => push_one_row(alloc, out, row),
+        Reply::Error(error) => push_error(alloc, out, *error),
+        Reply::Pool(error) => push_pool_error(alloc, out, *error),
+        Reply::Count(n) => push_count(out, *n),
+        Reply::Ok => out.extend_from_slice(b"ok"),
+        Reply::Kept => out.extend_from_slice(b"kept"),
+        Reply::Closed => out.extend_from_slice(b"closed"),
+        Reply::NoRow => out.extend_from_slice(b"none"),
+        Reply::NotOut => out.extend_from_slice(b"notout"),
+        Reply::NoneFree => out.extend_from_slice(b"nonefree"),
+        Reply::Skipped => out.extend_from_slice(b"skipped"),
+    }
+}
+
+/// Adds the line of an entry in parts.
+fn push_parts(alloc: Global, out: &mut Vec<u8>, entry: &Entry) -> Result<(), AllocError>
     ensures { OnOk result (out.new.items ≡ out.old.items ++ entry_line entry.now) }
 {
     push_head(out, entry)?;
-    push_reply(alloc, out, entry.reply)?;
+    push_reply(alloc, out, &entry.reply)?;
     push_end(out, entry)
 }
 
@@ -279,7 +300,7 @@ fn push_entry(
 {
     match put_entry(place, entry) {
         Some(at) => out.extend_from_slice(&place[at..]),
-        None => push_refused(alloc, out, entry),
+        None => push_parts(alloc, out, entry),
     }
 }
 

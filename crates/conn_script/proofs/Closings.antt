@@ -41,7 +41,7 @@ end_stands : (b k c : ℕ) → b ≡ suc k → may_stand b c (request_of (End c)
 end_stands b k c e = grind (arith, nat_tests)
 
 end_may_come : (d : Draft) (k : ℕ) → d.blocks ≡ suc k → may_come d (request_of (End d.inside)) ≡ true
-end_may_come d k e = ap (λ (b : Bool). b && true) (end_stands d.blocks k d.inside e)
+end_may_come d k e = ap (λ (b : Bool). b && true && true) (end_stands d.blocks k d.inside e)
 
 names : (len b i : ℕ) → (nat_le (len + b) 1048576 && nat_lt i 4294967296) ≡ true → i < 4294967296
 names len b i h = grind (arith, nat_tests)

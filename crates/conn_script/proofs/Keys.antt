@@ -1,13 +1,14 @@
 -- The sets of the keys that lines name, with one line more.
-use Rattle.std.proofs.Common.{◌≡◌, Bool, true, false, cond, List, [], ◌∷◌, ◌++◌, Option, Some, None, refl, sym, ap, ◌∙◌}
+use Rattle.std.proofs.Common.{◌≡◌, ℕ, Bool, true, false, cond, List, [], ◌∷◌, ◌++◌, Option, Some, None, refl, sym, ap, ◌∙◌, arith}
 use Rattle.std.specs.Prelude.{◌||◌}
 use Rattle.std.specs.List.{list_any}
 use Rattle.std.specs.BTreeMap.{is_at}
 use Rattle.std.specs.declared.cmp.Ordering.{Ordering}
 use Rattle.std.proofs.lemmas.List.Folds.{list_any-append}
 use Rattle.conn_script.specs.Keys.{is_key, is_named_in, AreKeys}
+use Rattle.conn_script.specs.Plans.{compare_items}
 
-any_more : {X : Type 0} (test : X → Bool) (xs : List X) (x : X) → list_any test (xs ++ x ∷ []) ≡ cond (test x) true (list_any test xs)
+pub any_more : {X : Type 0} (test : X → Bool) (xs : List X) (x : X) → list_any test (xs ++ x ∷ []) ≡ cond (test x) true (list_any test xs)
 any_more test xs x = list_any-append test xs (x ∷ []) ∙ turned (list_any test xs) (test x)
   where
     turned : (a b : Bool) → (a || (b || false)) ≡ cond b true a
@@ -15,6 +16,10 @@ any_more test xs x = list_any-append test xs (x ∷ []) ∙ turned (list_any tes
     turned true false = refl
     turned false true = refl
     turned false false = refl
+
+-- which of two items is asked for is the same
+pub turned : (a b : ℕ × ℕ) → is_at (compare_items a) b ≡ is_at (compare_items b) a
+turned a b = grind arith
 
 module _ {X K : Type 0} (compare : K → K → Ordering) (key : X → Option K) where
   named_more : (lines : List X) (x : X) (o : Option K) (k : K) → key x ≡ o → is_named_in compare key (lines ++ x ∷ []) k ≡ cond (is_key compare k o) true (is_named_in compare key lines k)

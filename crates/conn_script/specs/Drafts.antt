@@ -1,32 +1,44 @@
 -- What the lines so far say, and what one line more adds.
 use Rattle.std.specs.Prelude.{ℕ, ◌+◌, ◌&&◌, ◌||◌, not, Bool, true, false, nat_le, nat_lt, List, [], ◌∷◌, ◌++◌, length, Option, codes}
+use Rattle.conn_model.specs.Armed.{armed_of, rows_of}
 use Rattle.conn_model.specs.declared.item.Dialect.{Dialect}
 use Rattle.conn_model.specs.declared.item.Dialect.TheVariants.{Pg, Mysql, Sqlite}
 use Rattle.conn_model.specs.declared.plan.PlanLine.{PlanLine}
+use Rattle.conn_model.specs.declared.plan.PlanLine.TheVariants.{Rows}
 use Rattle.conn_script.specs.Keys.{is_named_in}
-use Rattle.conn_script.specs.Openings.{blocks_behind, inside_behind, may_stand}
-use Rattle.conn_script.specs.Options.{guard}
-use Rattle.conn_script.specs.Plans.{compare_items, is_setup, refused_key, refused_line}
-use Rattle.conn_script.specs.Queries.{is_declared, is_used}
+use Rattle.conn_script.specs.Openings.{blocks_behind, fits_dialect, inside_behind, loads_behind, may_load, may_stand}
+use Rattle.conn_script.specs.Options.{◌>>=◌, guard}
+use Rattle.conn_script.specs.Plans.{compare_items, is_setup, refused_key, refused_line, refused_row_key, refused_row_line}
+use Rattle.conn_script.specs.Queries.{is_declared, is_used, query_text}
 use Rattle.conn_script.specs.Requests.{request_of}
+use Rattle.conn_script.specs.RowCounts.{may_follow, row_count_of}
 use Rattle.conn_script.specs.declared.command.Act.{Act}
 use Rattle.conn_script.specs.declared.command.Customizer.TheVariants as customizers
 use Rattle.conn_script.specs.declared.command.Script.{Script}
+use Rattle.conn_script.specs.declared.plan.QueryRow.{QueryRow}
 use Rattle.conn_script.specs.declared.plan.Refused.{Refused}
+use Rattle.conn_script.specs.declared.plan.RefusedRow.{RefusedRow}
 use Rattle.conn_script.specs.declared.query.Declared.{Declared}
 use Rattle.conn_script.specs.declared.request.Request.{Request}
 use Rattle.conn_script.specs.declared.request.Request.TheVariants.{On}
 use Rattle.conn_script.specs.declared.request.Verb.TheVariants.{Query}
 
--- a script so far, how many blocks are open, and the connection that they name
+-- a script so far, how many blocks are open, the connection that they name, and how many commands
+-- ask for rows
 pub record Draft : Type 0 where
   pub script : Script
   pub blocks : ℕ
   pub inside : ℕ
+  pub loads : ℕ
 
--- the draft of a script and its open blocks
-abbrev pub draft_of : Script → ℕ → ℕ → Draft
-draft_of script blocks inside = record { script = script; blocks = blocks; inside = inside }
+-- the draft of a script, its open blocks and the number of its commands that ask for rows
+abbrev pub draft_of : Script → ℕ → ℕ → ℕ → Draft
+draft_of script blocks inside loads = record {
+  script = script;
+  blocks = blocks;
+  inside = inside;
+  loads = loads;
+}
 
 -- where a server of a dialect is found
 abbrev pub default_url : Dialect → List ℕ
@@ -49,7 +61,7 @@ empty_script dialect = record {
 
 -- the draft of the first line alone
 abbrev pub empty_draft : Dialect → Draft
-empty_draft dialect = draft_of (empty_script dialect) 0 0
+empty_draft dialect = draft_of (empty_script dialect) 0 0 0
 
 -- the draft with one command more, that of line n
 abbrev pub command_added : ℕ → Draft → Act → Draft
@@ -57,6 +69,7 @@ command_added n d act = record {
   script = record d.script { commands = d.script.commands ++ record { line = n; act = act } ∷ [] };
   blocks = blocks_behind d.blocks (request_of act);
   inside = inside_behind d.inside (request_of act);
+  loads = loads_behind d.loads (request_of act);
 }
 
 -- it names no query, or a declared one
@@ -64,9 +77,16 @@ abbrev pub knows : List Declared → Request → Bool
 knows queries (On c (Query call n)) = is_declared queries n
 knows queries request = true
 
--- it may come where these blocks are open, and these queries declared
+-- it can be asked of servers of this dialect where these queries are declared
+abbrev pub may_ask : Dialect → List Declared → Request → Bool
+may_ask dialect queries request = knows queries request && fits_dialect dialect request
+
+-- it may come where these blocks are open and these queries declared, behind so many commands that
+-- ask for rows
 abbrev pub may_come : Draft → Request → Bool
-may_come d request = may_stand d.blocks d.inside request && knows d.script.queries request
+may_come d request =
+    may_stand d.blocks d.inside request && may_ask d.script.dialect d.script.queries request
+    && may_load d.loads request
 
 -- the draft with one command more, if it may come
 abbrev pub with_command : ℕ → Draft → Act → Option Draft
@@ -82,6 +102,26 @@ with_refused d r =
     guard (is_setup d.script.commands
     && not (is_named_in compare_items refused_key d.script.plan (r.server, r.item)))
     (plan_added d (refused_line r))
+
+-- the draft with a row more refused, of a run of which no other line may refuse one, before the first
+-- command
+abbrev pub with_refused_row : Draft → RefusedRow → Option Draft
+with_refused_row d r =
+    guard (is_setup d.script.commands
+    && not (is_named_in compare_items refused_row_key d.script.plan (r.server, r.item)))
+    (plan_added d (refused_row_line r))
+
+-- so many values may come as a further row of the text, before the first command
+abbrev pub may_give : Draft → List ℕ → ℕ → Bool
+may_give d text values =
+    is_setup d.script.commands
+    && may_follow (row_count_of (rows_of (armed_of d.script.plan) text)) values
+
+-- the draft with one row more of the text of a query, which is declared
+abbrev pub with_row : Draft → QueryRow → Option Draft
+with_row d r = do
+  text ← query_text d.script.queries r.query
+  guard (may_give d text (length r.row)) (plan_added d (Rows text r.row))
 
 -- the draft with one query more
 abbrev pub query_added : Draft → Declared → Draft

@@ -9,9 +9,9 @@ pub use Rattle.conn_script.specs.Options.{◌>>=◌, guard}
 use Rattle.conn_script.specs.Words.{split_at, pieces, is_statement}
 use Rattle.conn_script.specs.Spelling.{word_named}
 use Rattle.conn_script.specs.Fields.{session_dialect}
-use Rattle.conn_script.specs.Plans.{refused_of}
+use Rattle.conn_script.specs.Plans.{query_row_of, refused_of, refused_row_of}
 use Rattle.conn_script.specs.Queries.{declared_of}
-use Rattle.conn_script.specs.Drafts.{Draft, empty_draft, with_command, with_query, with_refused, if_closable}
+use Rattle.conn_script.specs.Drafts.{Draft, empty_draft, with_command, with_query, with_refused, with_refused_row, with_row, if_closable}
 use Rattle.conn_script.specs.declared.command.Word.{Word}
 use Rattle.conn_script.specs.declared.command.Word.TheVariants as words
 use Rattle.conn_script.specs.declared.command.Act.{Act}
@@ -19,7 +19,7 @@ use Rattle.conn_script.specs.declared.command.Act.TheVariants as acts
 use Rattle.conn_script.specs.declared.command.BlockKind.{BlockKind}
 use Rattle.conn_script.specs.declared.command.BlockKind.TheVariants as kinds
 use Rattle.conn_script.specs.declared.command.QueryCall.{QueryCall}
-use Rattle.conn_script.specs.declared.command.QueryCall.TheVariants.{Exec}
+use Rattle.conn_script.specs.declared.command.QueryCall.TheVariants.{Exec, Load, Each, One, Optional}
 use Rattle.conn_script.specs.declared.command.Script.{Script}
 use Rattle.conn_script.specs.declared.command.SessionError.{SessionError}
 use Rattle.conn_script.specs.declared.command.SessionError.TheVariants.{BadScript, OutOfMemory}
@@ -65,6 +65,10 @@ act_from words.Commit rest = option_map acts.Commit (connection_alone rest)
 act_from words.Rollback rest = option_map acts.Rollback (connection_alone rest)
 act_from words.TestBegin rest = option_map acts.TestBegin (connection_alone rest)
 act_from words.Exec rest = query_call Exec rest
+act_from words.Load rest = query_call Load rest
+act_from words.Each rest = query_call Each rest
+act_from words.One rest = query_call One rest
+act_from words.Optional rest = query_call Optional rest
 act_from words.CacheSize rest = do
   text ← rest
   c ← number 4294967296 (split_at 32 text).0
@@ -85,18 +89,39 @@ act_of first rest = do
   word ← word_named first
   act_from word rest
 
--- the draft with the query that a line declares, by what follows its word
+-- the draft with the item that a line refuses, by what follows its word
+abbrev pub with_refusal : Draft → Option (List ℕ) → Option Draft
+with_refusal d rest = refused_of d.script.dialect rest >>= with_refused d
+
+-- the draft with the row that a line refuses, likewise
+abbrev pub with_row_refusal : Draft → Option (List ℕ) → Option Draft
+with_row_refusal d rest = refused_row_of d.script.dialect rest >>= with_refused_row d
+
+-- the draft with the query that a line declares
 abbrev pub with_declared : Draft → Option (List ℕ) → Option Draft
 with_declared d rest = declared_of rest >>= with_query d
+
+-- the draft with the row that a line gives a query
+abbrev pub with_query_row : Draft → Option (List ℕ) → Option Draft
+with_query_row d rest = query_row_of rest >>= with_row d
+
+-- the draft with the command of this first word
+abbrev pub with_act : ℕ → Draft → List ℕ → Option (List ℕ) → Option Draft
+with_act n d first rest = act_of first rest >>= with_command n d
+
+-- the draft with the query, the row or the command of this first word
+abbrev pub with_query_words : ℕ → Draft → List ℕ → Option (List ℕ) → Option Draft
+with_query_words n d first rest =
+    if bytes_eq first (codes "query") then with_declared d rest else
+    if bytes_eq first (codes "row") then with_query_row d rest else with_act n d first rest
 
 -- the draft with one line more, the line of number n, by its first word and what follows it behind
 -- a space
 abbrev pub with_words : ℕ → Draft → List ℕ × Option (List ℕ) → Option Draft
 with_words n d line =
-    if bytes_eq line.0 (codes "refuse")
-    then (refused_of d.script.dialect line.1 >>= with_refused d) else
-    if bytes_eq line.0 (codes "query") then with_declared d line.1 else
-    (act_of line.0 line.1 >>= with_command n d)
+    if bytes_eq line.0 (codes "refuse") then with_refusal d line.1 else
+    if bytes_eq line.0 (codes "refuserow") then with_row_refusal d line.1 else
+    with_query_words n d line.0 line.1
 
 -- the draft with one more line of text, behind which the lines that are due can still come
 abbrev pub with_text : ℕ → Draft → List ℕ → Option Draft

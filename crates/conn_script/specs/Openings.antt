@@ -1,6 +1,9 @@
--- The open blocks, all on one connection: which requests may come where they are open, and what is
--- open behind them.
-use Rattle.std.specs.Prelude.{ℕ, ◌+◌, ◌-◌, ◌==◌, ◌&&◌, not, Bool, true, false, nat_lt, if◌then◌else◌}
+-- Which requests may come behind others: the open blocks, all on one connection, and the number of
+-- those that ask for rows.
+use Rattle.std.specs.Prelude.{ℕ, ◌+◌, ◌-◌, ◌==◌, ◌&&◌, ◌||◌, not, Bool, true, false, nat_lt, if◌then◌else◌}
+use Rattle.conn_model.specs.declared.item.Dialect.{Dialect}
+use Rattle.conn_model.specs.declared.item.Dialect.TheVariants.{Pg}
+use Rattle.conn_script.specs.declared.command.QueryCall.TheVariants.{Load, Each, One, Optional}
 use Rattle.conn_script.specs.declared.request.Request.{Request}
 use Rattle.conn_script.specs.declared.request.Request.TheVariants.{On}
 use Rattle.conn_script.specs.declared.request.Verb.TheVariants.{Batch, Query, Cache, Ping, Block, End, Fail}
@@ -44,3 +47,29 @@ blocks_behind blocks _ = blocks
 abbrev pub inside_behind : ℕ → Request → ℕ
 inside_behind inside (On c (Block kind)) = c
 inside_behind inside _ = inside
+
+-- it asks for rows
+abbrev pub loads_rows : Request → Bool
+loads_rows (On c (Query Load query)) = true
+loads_rows (On c (Query Each query)) = true
+loads_rows (On c (Query One query)) = true
+loads_rows (On c (Query Optional query)) = true
+loads_rows _ = false
+
+-- it may come behind so many that ask for rows, of which a script has at most 65,536
+abbrev pub may_load : ℕ → Request → Bool
+may_load loads request = not (loads_rows request) || nat_lt loads 65536
+
+-- how many ask for rows with it
+abbrev pub loads_behind : ℕ → Request → ℕ
+loads_behind loads request = if loads_rows request then loads + 1 else loads
+
+-- it is PostgreSQL's
+abbrev pub is_postgres : Dialect → Bool
+is_postgres Pg = true
+is_postgres _ = false
+
+-- servers of this dialect can be asked it: PostgreSQL alone gives rows one by one
+abbrev pub fits_dialect : Dialect → Request → Bool
+fits_dialect dialect (On c (Query Each query)) = is_postgres dialect
+fits_dialect dialect _ = true

@@ -1,13 +1,14 @@
 -- The queries that a script declares.
-use Rattle.std.specs.Prelude.{ℕ, ◌≡◌, ◌==◌, ◌&&◌, Bool, false, nat_le, nat_lt, List, length, Option, Some, None, codes, if◌then◌else◌}
-use Rattle.std.specs.List.{list_any}
+use Rattle.std.specs.Prelude.{ℕ, ◌≡◌, ◌==◌, ◌&&◌, Bool, false, nat_eq, nat_le, nat_lt, List, length, Option, Some, None, is_some, codes, if◌then◌else◌}
+use Rattle.std.specs.List.{find, list_any}
+use Rattle.std.specs.Option.{option_map}
 use Rattle.std.specs.Str.{bytes_eq}
 use Rattle.conn_model.specs.Numbers.{number}
 use Rattle.conn_script.specs.Binds.{binds_named}
 use Rattle.conn_script.specs.Fields.{number_at, word_at}
-use Rattle.conn_script.specs.NumberSets.{NumberSet, has}
 use Rattle.conn_script.specs.Options.{◌>>=◌, guard}
 use Rattle.conn_script.specs.Shapes.{shape_named}
+use Rattle.conn_script.specs.Tables.{Table, value_at}
 use Rattle.conn_script.specs.Words.{is_statement}
 use Rattle.conn_script.specs.declared.query.Declared.{Declared}
 use Rattle.conn_script.specs.declared.query.Safety.{Safety}
@@ -81,9 +82,13 @@ declared_by w = do
 abbrev pub declared_of : Option (List ℕ) → Option Declared
 declared_of rest = written_of rest >>= declared_by
 
+-- the text of the query of this number, where it is declared
+abbrev pub query_text : List Declared → ℕ → Option (List ℕ)
+query_text queries n = option_map (λ q. q.text) (find (λ q. q.number == n) queries)
+
 -- one of the queries has this number
 abbrev pub is_declared : List Declared → ℕ → Bool
-is_declared queries n = list_any (λ q. q.number == n) queries
+is_declared queries n = is_some (query_text queries n)
 
 -- there is an id, and it is this one
 abbrev pub is_id : Option ℕ → ℕ → Bool
@@ -99,10 +104,10 @@ abbrev pub is_used : List Declared → Option ℕ → Bool
 is_used queries None = false
 is_used queries (Some id) = has_id queries id
 
--- the set has the numbers of the queries
-abbrev pub AreNumbers : NumberSet → List Declared → Type 0
-AreNumbers set queries = (n : ℕ) → has set n ≡ is_declared queries n
+-- the table has the texts of the queries
+abbrev pub AreTexts : Table ℕ (List ℕ) → List Declared → Type 0
+AreTexts table queries = (n : ℕ) → value_at nat_eq table n ≡ query_text queries n
 
--- the set has their ids
-abbrev pub AreIds : NumberSet → List Declared → Type 0
-AreIds set queries = (n : ℕ) → has set n ≡ has_id queries n
+-- the table has their ids
+abbrev pub AreIds : Table ℕ (Unit {0}) → List Declared → Type 0
+AreIds table queries = (n : ℕ) → is_some (value_at nat_eq table n) ≡ has_id queries n

@@ -1,7 +1,7 @@
 -- What a command asks of the pool or of a connection.
 use Rattle.conn_script.specs.declared.command.Act.{Act}
 use Rattle.conn_script.specs.declared.command.Act.TheVariants as acts
-use Rattle.conn_script.specs.declared.command.QueryCall.TheVariants.{Exec}
+use Rattle.conn_script.specs.declared.command.QueryCall.TheVariants.{Exec, Load, Each, One, Optional}
 use Rattle.conn_script.specs.declared.command.Word.{Word}
 use Rattle.conn_script.specs.declared.command.Word.TheVariants as words
 use Rattle.conn_script.specs.declared.request.Request.{Request}
@@ -33,6 +33,10 @@ verb_word verbs.Commit = words.Commit
 verb_word verbs.Rollback = words.Rollback
 verb_word verbs.TestBegin = words.TestBegin
 verb_word (verbs.Query Exec query) = words.Exec
+verb_word (verbs.Query Load query) = words.Load
+verb_word (verbs.Query Each query) = words.Each
+verb_word (verbs.Query One query) = words.One
+verb_word (verbs.Query Optional query) = words.Optional
 verb_word (verbs.Cache size) = words.CacheSize
 verb_word verbs.Ping = words.Ping
 verb_word (verbs.Block kind) = words.Transaction

@@ -5,7 +5,7 @@ use Rattle.std.specs.Str.{bytes_eq}
 use Rattle.conn_result.specs.declared.error.DatabaseErrorKind.{DatabaseErrorKind}
 use Rattle.conn_result.specs.declared.error.DatabaseErrorKind.TheVariants.{UniqueViolation, ForeignKeyViolation, UnableToSendCommand, SerializationFailure, ReadOnlyTransaction, NotNullViolation, CheckViolation, ClosedConnection, Unknown, RestrictViolation, ExclusionViolation}
 use Rattle.conn_script.specs.declared.command.Word.{Word}
-use Rattle.conn_script.specs.declared.command.Word.TheVariants.{Get, Put, Batch, Begin, Commit, Rollback, TestBegin, Exec, CacheSize, Ping, Transaction, End, Fail}
+use Rattle.conn_script.specs.declared.command.Word.TheVariants.{Get, Put, Batch, Begin, Commit, Rollback, TestBegin, Exec, Load, Each, One, Optional, CacheSize, Ping, Transaction, End, Fail}
 
 -- how a word is spelled
 abbrev pub word_text : Word → List ℕ
@@ -17,6 +17,10 @@ word_text Commit = codes "commit"
 word_text Rollback = codes "rollback"
 word_text TestBegin = codes "testbegin"
 word_text Exec = codes "exec"
+word_text Load = codes "load"
+word_text Each = codes "each"
+word_text One = codes "one"
+word_text Optional = codes "optional"
 word_text CacheSize = codes "cachesize"
 word_text Ping = codes "ping"
 word_text Transaction = codes "transaction"
@@ -26,8 +30,8 @@ word_text Fail = codes "fail"
 -- all of the words
 abbrev pub all_words : List Word
 all_words =
-    Get ∷ Put ∷ Batch ∷ Begin ∷ Commit ∷ Rollback ∷ TestBegin ∷ Exec ∷ CacheSize ∷ Ping
-    ∷ Transaction ∷ End ∷ Fail ∷ []
+    Get ∷ Put ∷ Batch ∷ Begin ∷ Commit ∷ Rollback ∷ TestBegin ∷ Exec ∷ Load ∷ Each ∷ One
+    ∷ Optional ∷ CacheSize ∷ Ping ∷ Transaction ∷ End ∷ Fail ∷ []
 
 -- the word that is spelled so
 abbrev pub word_named : List ℕ → Option Word

@@ -1,5 +1,5 @@
 -- Values as scripts write them.
-use Rattle.std.specs.Prelude.{ℕ, zero, suc, ◌&&◌, ◌||◌, Bool, nat_lt, List, [], ◌∷◌, Option, Some, None, ℤ, pos, negsuc, codes, if◌then◌else◌}
+use Rattle.std.specs.Prelude.{ℕ, zero, suc, ◌&&◌, ◌||◌, Bool, nat_le, nat_lt, List, [], ◌∷◌, length, Option, Some, None, ℤ, pos, negsuc, codes, if◌then◌else◌}
 use Rattle.std.specs.List.{list_all}
 use Rattle.std.specs.Option.{option_map}
 use Rattle.std.specs.Result.{result_ok}
@@ -8,8 +8,8 @@ use Rattle.hex.specs.Hex.{decode_of}
 use Rattle.conn_model.specs.Numbers.{number}
 use Rattle.conn_model.specs.declared.value.Value.{Value}
 use Rattle.conn_model.specs.declared.value.Value.TheVariants.{Null, Int, Text, Bytes}
-use Rattle.conn_script.specs.Options.{◌>>=◌, guard}
-use Rattle.conn_script.specs.Words.{split_at}
+use Rattle.conn_script.specs.Options.{◌>>=◌, guard, readings}
+use Rattle.conn_script.specs.Words.{pieces, split_at}
 
 -- the number that is so far below zero, where it has 64 bits
 abbrev pub below_zero : ℕ → Option ℤ
@@ -62,3 +62,11 @@ value_by kind (Some content) =
 -- the value that is written so
 abbrev pub value_named : List ℕ → Option Value
 value_named bs = value_by (split_at 58 bs).0 (split_at 58 bs).1
+
+-- values with commas between them
+abbrev pub value_list : List ℕ → Option (List Value)
+value_list bs = readings value_named (pieces 44 bs)
+
+-- one to 16 values
+abbrev pub row_values : List ℕ → Option (List Value)
+row_values bs = value_list bs >>= λ values. guard (nat_le (length values) 16) values

@@ -16,6 +16,10 @@ pub enum Word {
     Rollback,
     TestBegin,
     Exec,
+    Load,
+    Each,
+    One,
+    Optional,
     CacheSize,
     Ping,
     Transaction,
@@ -27,7 +31,7 @@ impl Word {
     ghost use Rattle.conn_script.specs.Spelling.{word_text};
 
     /// All of them.
-    pub const ALL: [Word; 13] = [
+    pub const ALL: [Word; 17] = [
         Word::Get,
         Word::Put,
         Word::Batch,
@@ -36,6 +40,10 @@ impl Word {
         Word::Rollback,
         Word::TestBegin,
         Word::Exec,
+        Word::Load,
+        Word::Each,
+        Word::One,
+        Word::Optional,
         Word::CacheSize,
         Word::Ping,
         Word::Transaction,
@@ -56,6 +64,10 @@ impl Word {
             Word::Rollback => "rollback",
             Word::TestBegin => "testbegin",
             Word::Exec => "exec",
+            Word::Load => "load",
+            Word::Each => "each",
+            Word::One => "one",
+            Word::Optional => "optional",
             Word::CacheSize => "cachesize",
             Word::Ping => "ping",
             Word::Transaction => "transaction",
@@ -77,6 +89,14 @@ pub enum BlockKind {
 pub enum QueryCall {
     /// It is run, and the rows that it affected are counted.
     Exec,
+    /// Its rows are loaded at once.
+    Load,
+    /// Its rows are loaded one after the other.
+    Each,
+    /// Its first row is loaded, which is to be there.
+    One,
+    /// Its first row is loaded, where there is one.
+    Optional,
 }
 
 /// What a command asks for. The first number is the connection; a text stands in the bytes of the script.

@@ -1,47 +1,62 @@
 //! What the lines so far say.
-ghost use Rattle.std.specs.Prelude.{◌≡◌, ◌≤◌, ◌==◌, ℕ, true, IfOk, OnErr, if◌then◌else◌};
-ghost use Rattle.conn_script.specs.NumberSets.{has};
+ghost use Rattle.std.specs.Prelude.{◌≡◌, ◌≤◌, ◌==◌, ℕ, true, nat_eq, is_some, IfOk, OnErr, if◌then◌else◌};
+ghost use Rattle.std.specs.Option.{option_copied};
+ghost use Rattle.conn_model.specs.Armed.{armed_of, rows_of};
 ghost use Rattle.conn_script.specs.Options.{guard};
 ghost use Rattle.conn_script.specs.Plans.{is_setup};
-ghost use Rattle.conn_script.specs.Queries.{is_id, is_used};
+ghost use Rattle.conn_script.specs.Queries.{is_id, is_used, query_text};
 ghost use Rattle.conn_script.specs.Requests.{request_of};
-ghost use Rattle.conn_script.specs.Drafts.{can_close, default_url, empty_draft, empty_script, is_taken, knows, with_command, with_query, with_refused};
+ghost use Rattle.conn_script.specs.RowCounts.{row_count_of};
+ghost use Rattle.conn_script.specs.Tables.{value_at};
+ghost use Rattle.conn_script.specs.Drafts.{can_close, default_url, empty_draft, empty_script, is_taken, knows, may_ask, with_command, with_query, with_refused, with_refused_row, with_row};
 
-use crate::number_set::NumberSet;
-use crate::openings::{bounds_block, can_end, may_stand, open_behind};
-use crate::plan::{Refused, plan_line};
+use crate::openings::{
+    bounds_block, can_end, fits_dialect, loads_behind, may_load, may_stand, open_behind,
+};
+use crate::plan::{QueryRow, Refused, RefusedRow, refused_line, refused_row_line};
+use crate::row_counts::{RowCount, may_follow, next_count};
+use crate::table::Table;
 use crate::{Act, Command, Customizer, Declared, Script};
-use conn_model::{Dialect, Text};
+use conn_model::{Dialect, LentText, PlanLine, Text};
 use sqlite_items::Items;
 use std::alloc::{AllocError, Global};
 use std::collections::BTreeSet;
 use std::marker::Model;
 
-/// A script so far, seen as it stands with its open blocks. Beside it are the items that its
-/// plan refuses, each a server and the item's number, and the numbers and ids of its queries.
+/// A script so far, seen as it stands with its open blocks and the number of its commands that ask
+/// for rows. Beside it are the items that its plan refuses and the runs of which it refuses a row,
+/// each a server and the item's number, the texts of its queries by their numbers, their ids, and
+/// the rows of each text, counted.
 #[derive(Drop)]
 pub struct Draft<'a> {
     script: Script<'a>,
     /// How many blocks are open, and the connection that they name.
     blocks: u32,
     inside: u32,
+    /// How many commands ask for rows.
+    loads: u32,
     refused: BTreeSet<(u32, u64)>,
-    numbers: NumberSet,
-    ids: NumberSet,
+    refused_rows: BTreeSet<(u32, u64)>,
+    texts: Table<u32, LentText<'a>>,
+    ids: Table<u64, ()>,
+    rows: Table<LentText<'a>, RowCount>,
 }
 
 impl<'a> Model for Draft<'a> {
     ghost use Rattle.conn_script.specs.Keys.{AreKeys};
-    ghost use Rattle.conn_script.specs.Plans.{compare_items, refused_key};
-    ghost use Rattle.conn_script.specs.Queries.{AreIds, AreNumbers};
+    ghost use Rattle.conn_script.specs.Plans.{compare_items, refused_key, refused_row_key};
+    ghost use Rattle.conn_script.specs.Queries.{AreIds, AreTexts};
+    ghost use Rattle.conn_script.specs.RowCounts.{AreRowCounts};
     ghost use Rattle.conn_script.specs.Drafts.{Draft, draft_of};
 
     ghost Value = { Draft };
 
-    ghost view = { λ d. draft_of d.script d.blocks d.inside };
+    ghost view = { λ d. draft_of d.script d.blocks d.inside d.loads };
 
     ghost invariant = { λ d. AreKeys compare_items refused_key d.refused.keys d.script.plan
-        × AreNumbers d.numbers d.script.queries × AreIds d.ids d.script.queries };
+        × AreKeys compare_items refused_row_key d.refused_rows.keys d.script.plan
+        × AreTexts d.texts d.script.queries × AreIds d.ids d.script.queries
+        × AreRowCounts d.rows d.script.plan };
 }
 
 /// Where a server of the dialect is found.
@@ -71,13 +86,14 @@ fn empty<'a>(alloc: Global, dialect: Dialect) -> Result<Script<'a>, AllocError>
     })
 }
 
-/// Puts the id into the set, where there is one.
-fn add_id(ids: &mut NumberSet, id: Option<u64>)
+/// Puts the id into the table, where there is one.
+fn add_id(ids: &mut Table<u64, ()>, id: Option<u64>)
     requires { 1 ≤ ids.old.room }
-    ensures { (n : ℕ) → has ids.new n ≡ (if is_id id n then true else has ids.old n) }
+    ensures { (n : ℕ) → is_some (value_at nat_eq ids.new n)
+        ≡ (if is_id id n then true else is_some (value_at nat_eq ids.old n)) }
 {
     if let Some(id) = id {
-        ids.add(id);
+        ids.put(id, ());
     }
 }
 
@@ -90,9 +106,12 @@ impl<'a> Draft<'a> {
             script: empty(alloc, dialect)?,
             blocks: 0,
             inside: 0,
+            loads: 0,
             refused: BTreeSet::new(alloc),
-            numbers: NumberSet::new(alloc),
-            ids: NumberSet::new(alloc),
+            refused_rows: BTreeSet::new(alloc),
+            texts: Table::new(alloc),
+            ids: Table::new(alloc),
+            rows: Table::new(alloc),
         })
     }
 
@@ -117,14 +136,40 @@ impl<'a> Draft<'a> {
         self.blocks == 0
     }
 
+    /// The text of a query, where it is declared.
+    fn text_of(&self, query: u32) -> Option<&'a str>
+        ensures { option_copied result ≡ query_text self.now.script.queries query }
+    {
+        match self.texts.get(&query) {
+            Some(text) => Some(text.as_str()),
+            None => None,
+        }
+    }
+
+    /// The count of the text's rows, where it has some.
+    fn count_of(&self, text: &'a str) -> Option<RowCount>
+        ensures { result ≡ row_count_of (rows_of (armed_of self.now.script.plan) text.now) }
+    {
+        self.rows.get(&LentText::new(text)).copied()
+    }
+
     /// Whether the command names no query, or a declared one.
     fn knows(&self, act: &Act) -> bool
         ensures { result ≡ knows self.now.script.queries (request_of act.now) }
     {
         match act {
-            Act::Query(_, _, query) => self.numbers.contains(u64::from(*query)),
+            Act::Query(_, _, query) => self.text_of(*query).is_some(),
             _ => true,
         }
+    }
+
+    /// Whether the command can be asked of servers of its dialect, and its query is declared
+    /// where it names one.
+    fn may_ask(&self, act: &Act) -> bool
+        ensures { result
+            ≡ may_ask self.now.script.dialect self.now.script.queries (request_of act.now) }
+    {
+        self.knows(act) && fits_dialect(self.script.dialect, act)
     }
 
     /// Adds a command, and answers whether it may come here.
@@ -133,12 +178,14 @@ impl<'a> Draft<'a> {
             (λ good. guard good self.new ≡ with_command line self.old act.entry) }
         ensures kept { OnErr result (self.new ≡ self.old) }
     {
-        if !self.knows(&act) {
+        if !self.may_ask(&act) || !may_load(self.loads, &act) {
             return Ok(false);
         }
+        let loads = loads_behind(self.loads, &act);
         // Most commands stand in no block and open none.
         if self.is_closed() && !bounds_block(&act) {
             self.script.commands.push(Command { line, act })?;
+            self.loads = loads;
             return Ok(true);
         }
         if !may_stand(self.blocks, self.inside, &act) {
@@ -148,6 +195,7 @@ impl<'a> Draft<'a> {
         self.script.commands.push(Command { line, act })?;
         self.blocks = blocks;
         self.inside = inside;
+        self.loads = loads;
         Ok(true)
     }
 
@@ -171,7 +219,7 @@ impl<'a> Draft<'a> {
         if self.refused.contains(&item) {
             return Ok(false);
         }
-        self.script.plan.push(plan_line(r))?;
+        self.script.plan.push(refused_line(r))?;
         match self.refused.insert(item) {
             Ok(_) => Ok(true),
             Err(e) => {
@@ -179,6 +227,55 @@ impl<'a> Draft<'a> {
                 Err(e.into())
             }
         }
+    }
+
+    /// Adds a row that is refused, and answers whether it may come here: no other line refuses a
+    /// row of that run, and no command stands before it.
+    pub fn add_refused_row(&mut self, r: RefusedRow) -> Result<bool, AllocError>
+        ensures added { IfOk result (λ good. guard good self.new ≡ with_refused_row self.old r) }
+        ensures kept { OnErr result (self.new ≡ self.old) }
+    {
+        if !self.is_setup() {
+            return Ok(false);
+        }
+        let run = (r.server, r.item);
+        if self.refused_rows.contains(&run) {
+            return Ok(false);
+        }
+        self.script.plan.push(refused_row_line(r))?;
+        match self.refused_rows.insert(run) {
+            Ok(_) => Ok(true),
+            Err(e) => {
+                let _ = self.script.plan.pop();
+                Err(e.into())
+            }
+        }
+    }
+
+    /// Adds a row of the text of a query, and answers whether it may come here: the query is
+    /// declared, its text has fewer than 16 rows, all of as many values, and no command stands
+    /// before it.
+    pub fn add_row(&mut self, alloc: Global, r: QueryRow) -> Result<bool, AllocError>
+        ensures added { IfOk result (λ good. guard good self.new ≡ with_row self.old r) }
+        ensures kept { OnErr result (self.new ≡ self.old) }
+    {
+        let Some(text) = self.text_of(r.query) else {
+            return Ok(false);
+        };
+        let values = r.row.len();
+        let count = self.count_of(text);
+        if !self.is_setup() || !may_follow(count, values) {
+            return Ok(false);
+        }
+        let line = PlanLine::Rows {
+            text: Text::new(alloc, text)?,
+            row: r.row,
+        };
+        self.rows.reserve()?;
+        self.script.plan.push(line)?;
+        self.rows
+            .put(LentText::new(text), next_count(count, values));
+        Ok(true)
     }
 
     /// Adds a query that commands may name, and answers whether it may come here: no other query
@@ -194,12 +291,13 @@ impl<'a> Draft<'a> {
         if self.is_taken(&query) {
             return Ok(false);
         }
-        let number = u64::from(query.number);
+        let number = query.number;
+        let text = LentText::new(query.text.as_str());
         let id = query.id;
-        self.numbers.reserve()?;
+        self.texts.reserve()?;
         self.ids.reserve()?;
         self.script.queries.push(query)?;
-        self.numbers.add(number);
+        self.texts.put(number, text);
         add_id(&mut self.ids, id);
         Ok(true)
     }
@@ -209,7 +307,7 @@ impl<'a> Draft<'a> {
         ensures { result ≡ is_used self.now.script.queries id }
     {
         match id {
-            Some(id) => self.ids.contains(id),
+            Some(id) => self.ids.get(&id).is_some(),
             None => false,
         }
     }
@@ -218,7 +316,7 @@ impl<'a> Draft<'a> {
     fn is_taken(&self, query: &Declared) -> bool
         ensures { result ≡ is_taken self.now.script.queries query.now }
     {
-        self.numbers.contains(u64::from(query.number)) || self.is_used(query.id)
+        self.text_of(query.number).is_some() || self.is_used(query.id)
     }
 
     /// The script of all lines.
@@ -229,9 +327,12 @@ impl<'a> Draft<'a> {
             script,
             blocks: _,
             inside: _,
+            loads: _,
             refused: _,
-            numbers: _,
+            refused_rows: _,
+            texts: _,
             ids: _,
+            rows: _,
         } = self;
         script
     }

@@ -8,14 +8,15 @@ mod draft;
 mod fields;
 mod kinds;
 mod law;
-mod number_set;
 mod openings;
 mod parse;
 mod plan;
 mod query;
 mod request;
+mod row_counts;
 mod shape;
 mod statement;
+mod table;
 mod values;
 mod words;
 
@@ -33,5 +34,7 @@ pub use shape::{Shape, ShapeKind};
 mod dialect_tests;
 #[cfg(test)]
 mod query_tests;
+#[cfg(test)]
+mod row_tests;
 #[cfg(test)]
 mod tests;

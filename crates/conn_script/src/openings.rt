@@ -1,17 +1,21 @@
-//! The open blocks: which commands may come, and which blocks are open behind them.
+//! Which commands may come behind others: the open blocks, and the commands that ask for rows.
 ghost use Rattle.std.specs.Prelude.{◌≡◌, true};
 ghost use Rattle.conn_script.specs.Drafts.{can_end};
-ghost use Rattle.conn_script.specs.Openings.{blocks_behind, bounds_block, closes_block, inside_behind, may_stand, may_stand_inside};
+ghost use Rattle.conn_script.specs.Openings.{blocks_behind, bounds_block, closes_block, fits_dialect, inside_behind, loads_behind, loads_rows, may_load, may_stand, may_stand_inside};
 ghost use Rattle.conn_script.specs.Requests.{request_of};
 
-use crate::Act;
 use crate::request::{Request, Verb};
+use crate::{Act, QueryCall};
+use conn_model::Dialect;
 
 /// The commands that a script has at most.
 const MAX_COMMANDS: usize = 1_048_576;
 
 /// The blocks that are open at most.
 const MAX_BLOCKS: u32 = 64;
+
+/// The commands of a script that ask for rows at most.
+const MAX_LOADS: u32 = 65_536;
 
 /// Whether the command closes a block.
 fn closes_block(act: &Act) -> bool
@@ -72,4 +76,40 @@ pub fn can_end(commands: usize, blocks: u32, inside: u32) -> bool
     ensures { result ≡ can_end commands blocks inside }
 {
     commands.saturating_add(blocks as usize) <= MAX_COMMANDS
+}
+
+/// Whether the command asks for rows.
+fn loads_rows(act: &Act) -> bool
+    ensures { result ≡ loads_rows (request_of act.now) }
+{
+    match act {
+        Act::Query(QueryCall::Exec, _, _) => false,
+        Act::Query(..) => true,
+        _ => false,
+    }
+}
+
+/// Whether the command may come behind so many that ask for rows.
+pub fn may_load(loads: u32, act: &Act) -> bool
+    ensures { result ≡ may_load loads (request_of act.now) }
+{
+    !loads_rows(act) || loads < MAX_LOADS
+}
+
+/// How many commands ask for rows with this one.
+pub fn loads_behind(loads: u32, act: &Act) -> u32
+    requires { may_load loads (request_of act.now) ≡ true }
+    ensures { result ≡ loads_behind loads (request_of act.now) }
+{
+    if loads_rows(act) { loads + 1 } else { loads }
+}
+
+/// Whether servers of the dialect can be asked it.
+pub fn fits_dialect(dialect: Dialect, act: &Act) -> bool
+    ensures { result ≡ fits_dialect dialect (request_of act.now) }
+{
+    match act {
+        Act::Query(QueryCall::Each, _, _) => matches!(dialect, Dialect::Pg),
+        _ => true,
+    }
 }

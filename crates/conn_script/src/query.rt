@@ -96,7 +96,7 @@ fn id_field(rest: Option<&str>) -> Option<(Option<u64>, Option<&str>)>
 }
 
 /// The next word as the number of a query.
-fn query_field(rest: Option<&str>) -> Option<(u32, Option<&str>)>
+pub fn query_field(rest: Option<&str>) -> Option<(u32, Option<&str>)>
     ensures { option_map (λ p. (p.0, option_copied p.1)) result
         ≡ number_at 0 65535 (option_copied rest.entry) }
 {

@@ -1,7 +1,5 @@
 //! Queries of a script, and the commands that name them.
-use crate::{
-    Act, Command, Declared, QueryCall, Safety, Script, SessionError, Shape, ShapeKind, parse_script,
-};
+use crate::{Act, QueryCall, Safety, SessionError, Shape, ShapeKind, parse_script};
 use conn_model::{Bind, BindType, CacheSize, Value};
 use std::alloc::Global;
 use std::test::Fail;
@@ -218,12 +216,11 @@ fn bad_commands_of_queries_are_bad_lines(rt: HostRuntime) -> Result<(), Fail> {
         "cachesize 0 bounded 2",
         "cachesize 0 disabled ",
         "cache 0 disabled",
-        "load 0 1",
+        "load 0",
         "each 0 1",
-        "one 0 1",
-        "optional 0 1",
-        "row 1 null",
-        "refuserow 0 1 1 1 - stay",
+        "one 0 2",
+        "optional 0 1 ",
+        "loads 0 1",
         "noconnect 1 1",
     ] {
         let lines = format!(in rt.alloc(); "query 1 safe - - * \n{line}\n")?;
@@ -237,11 +234,14 @@ fn bad_commands_of_queries_are_bad_lines(rt: HostRuntime) -> Result<(), Fail> {
 #[test]
 fn queries_may_be_run_in_a_block(rt: HostRuntime) -> Result<(), Fail> {
     let open = "query 1 safe - - * \ntransaction 3 plain\n";
-    let all = format!(in rt.alloc(); "{open}exec 3 1\ncachesize 3 disabled\nping 3\nend 3\n")?;
+    let all = format!(in rt.alloc();
+        "{open}exec 3 1\nload 3 1\none 3 1\noptional 3 1\ncachesize 3 disabled\nping 3\nend 3\n"
+    )?;
     assert_eq!(rt; fault(rt.alloc(), all.as_str())?, None);
     for line in [
         "exec 0 1",
         "exec 3 2",
+        "load 0 1",
         "cachesize 2 disabled",
         "ping 4",
         "query 2 safe - - * ",

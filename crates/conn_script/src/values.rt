@@ -2,12 +2,16 @@
 ghost use Rattle.std.specs.Prelude.{◌≡◌, IfOk};
 ghost use Rattle.std.specs.List.{list_all};
 ghost use Rattle.std.specs.Option.{option_copied};
-ghost use Rattle.conn_script.specs.Values.{not_negative, below_zero, bytes_named, hex_bytes, integer_by, integer_named, is_no_capital, is_shown, text_named, value_by, value_named};
+ghost use Rattle.conn_script.specs.Values.{not_negative, below_zero, bytes_named, hex_bytes, integer_by, integer_named, is_no_capital, is_shown, text_named, value_by, value_named, value_list, row_values};
 
 use crate::words::cut_at;
 use conn_model::{Bytes, Text, Value, number_u64};
 use hex::FromHexError;
+use sqlite_items::Items;
 use std::alloc::{AllocError, Global};
+
+/// The values that a row has at most.
+const MAX_VALUES: usize = 16;
 
 /// The number that is so far below zero, which is none of 64 bits where it is too far.
 fn below_zero(size: u64) -> Option<i64>
@@ -116,4 +120,36 @@ pub fn value_of(alloc: Global, text: &str) -> Result<Option<Value>, AllocError>
 {
     let (kind, content) = cut_at(text, b':');
     value_by(alloc, kind, content)
+}
+
+/// Values with commas between them.
+fn value_list(alloc: Global, text: &str) -> Result<Option<Items<Value>>, AllocError>
+    ensures { IfOk result (λ values. values ≡ value_list text.now) }
+{
+    let mut values = Items::new(alloc);
+    let mut rest = text;
+    loop {
+        let (piece, more) = cut_at(rest, b',');
+        let Some(value) = value_of(alloc, piece)? else {
+            return Ok(None);
+        };
+        values.push(value)?;
+        let Some(more) = more else {
+            return Ok(Some(values));
+        };
+        rest = more;
+    }
+}
+
+/// The values of a row that are written so.
+pub fn values_of(alloc: Global, text: &str) -> Result<Option<Items<Value>>, AllocError>
+    ensures { IfOk result (λ values. values ≡ row_values text.now) }
+{
+    let Some(values) = value_list(alloc, text)? else {
+        return Ok(None);
+    };
+    if values.len() > MAX_VALUES {
+        return Ok(None);
+    }
+    Ok(Some(values))
 }

@@ -9,11 +9,13 @@ use crate::refusal::{effect_of, order_in, ordered, unaccepted};
 use crate::standing::Standing;
 use conn_model::{Answer, Class, Dialect, Order, Refusal, Wish};
 
-/// What a call asks of a transaction: that a text may be prepared in it, or what a text of the class asks.
+/// What a call asks of a transaction: that a text may be prepared in it, what a text of the class asks, or a row, of which
+/// only a refusal is a call.
 #[derive(Clone, Copy)]
 pub enum Demand {
     Prepare,
     Run(Class),
+    Fetch,
 }
 
 fn commits(demand: Demand) -> bool
@@ -33,11 +35,12 @@ fn accept(standing: &mut Standing, dialect: Dialect, demand: Demand, place: u64)
     match demand {
         Demand::Prepare => standing.is_ready(),
         Demand::Run(class) => standing.accept(dialect, class, place),
+        Demand::Fetch => false,
     }
 }
 
 /// Does what a refused call does, with the effect that the wish has.
-fn refuse(
+pub fn refuse(
     standing: &mut Standing,
     dialect: Dialect,
     demand: Demand,

@@ -41,6 +41,9 @@ answers_open deed replies.NotOut a u = u
 answers_open deed replies.NoneFree a u = u
 answers_open deed replies.Skipped a u = u
 answers_open deed (replies.Count k) a u = u
+answers_open deed (replies.Rows rows) a u = u
+answers_open deed (replies.OneRow row) a u = u
+answers_open deed replies.NoRow a u = u
 answers_open deed (replies.Error e) a u = u
 answers_open deed (replies.Pool e) a u = a
 

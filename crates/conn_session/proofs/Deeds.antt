@@ -4,7 +4,7 @@ use Rattle.std.specs.Option.{option_map}
 use Rattle.std.specs.declared.alloc.AllocError.{AllocError}
 use Rattle.std.proofs.lemmas.List.{length-append}
 use Rattle.conn_model.specs.Acts.{Acts}
-use Rattle.conn_model.specs.Armed.{Armed}
+use Rattle.conn_model.specs.Armed.{Armed, armed_of}
 use Rattle.conn_model.specs.Seen.{IsHonest}
 use Rattle.conn_model.specs.States.{State, state_of}
 use Rattle.conn_model.specs.declared.item.Dialect.{Dialect}
@@ -84,8 +84,8 @@ module _ (honest tells : Bool) (honest_tells : honest ≡ true → tells ≡ tru
         let state_is : Some (state_told u.seen) ≡ Some r.state = sym (state_of_log u.seen (logs m ++ r.more) after_honest r.is_log) ∙ ap (λ (d : Dialect). state_of d (logs m ++ r.more)) acts.same.dialect ∙ r.lawful in
         let state : state_told u.seen ≡ r.state = cc state_is in
         let dialect : v.seen.dialect ≡ w.pool.dialect = has.dialect_is in
-        let read_so : ReadsItems w.pool.dialect [] (state_told v.seen) (process_of w.pool.dialect w.pool.queries v.status v.cache deed) r.more (outcome reply u.status u.cache) (state_told u.seen) =
-        subst (λ (d : Dialect). ReadsItems d [] (state_told v.seen) (process_of d w.pool.queries v.status v.cache deed) r.more (outcome reply u.status u.cache) (state_told u.seen)) dialect
+        let read_so : ReadsItems w.pool.dialect (armed_of w.connector.armed) (state_told v.seen) (process_of w.pool.dialect w.pool.queries v.status v.cache deed) r.more (outcome reply u.status u.cache) (state_told u.seen) =
+        subst (λ (d : Dialect). ReadsItems d (armed_of w.connector.armed) (state_told v.seen) (process_of d w.pool.queries v.status v.cache deed) r.more (outcome reply u.status u.cache) (state_told u.seen)) dialect
         (subst (λ (armed : List Armed). ReadsItems v.seen.dialect armed (state_told v.seen) (process_of v.seen.dialect w.pool.queries v.status v.cache deed) r.more (outcome reply u.status u.cache) (state_told u.seen)) has.armed_is
         (subst (λ (s : State). ReadsItems v.seen.dialect v.seen.armed (state_told v.seen) (process_of v.seen.dialect w.pool.queries v.status v.cache deed) r.more (outcome reply u.status u.cache) s) (sym state) r.reads)) in
         let mark : u.seen.sent ≡ v.seen.sent + length r.more =

@@ -6,6 +6,7 @@ use Rattle.std.specs.Option.{option_and_then, unwrap_or}
 use Rattle.std.proofs.lemmas.Bool.{cases_lt, cases_eq}
 use Rattle.std.proofs.lemmas.Bool.Decides.{nat_tests}
 use Rattle.std.proofs.lemmas.List.Sums.{sum_by-cons}
+use Rattle.conn_model.specs.Armed.{armed_of}
 use Rattle.conn_model.specs.Obeyed.{Obeys, obedient, obeyed}
 use Rattle.conn_model.specs.Seen.{Seen, writes_seen}
 use Rattle.conn_model.specs.States.{State, Idle, state_of, step}
@@ -126,7 +127,7 @@ known_start d url queries k returned = record {
 }
 
 start_is : (script : Script) (opened attempts : ℕ) (plan : List PlanLine) → opened ≡ 0 → attempts ≡ 0 → plan ≡ script.plan
-    → let P : Type 0 = Progress in let x : P = record { context = record { slots = None ∷ []; out = []; opened = opened; blocks = [] }; attempts = attempts; plan = plan; armed = []; queries = script.queries; dialect = script.dialect; url = script.url } in x ≡ started script
+    → let P : Type 0 = Progress in let x : P = record { context = record { slots = None ∷ []; out = []; opened = opened; blocks = [] }; attempts = attempts; plan = plan; armed = armed_of plan; queries = script.queries; dialect = script.dialect; url = script.url } in x ≡ started script
 start_is script opened attempts plan e f g = cc (e, f, g)
 
 -- each server is back, once

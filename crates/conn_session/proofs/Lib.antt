@@ -11,6 +11,7 @@ pub mod Gets
 pub mod Setups
 pub mod Finding
 pub mod Responses
+pub mod ShapeFaults
 pub mod BlockAnswers
 pub mod Deeds
 pub mod Verbs

@@ -1,10 +1,12 @@
 -- A connection that asked what a deed asks, and made its reply of the answer, does as the deed promises.
 use Rattle.std.proofs.Common.{◌≡◌, ◌≢◌, ℕ, Bool, true, false, List, [], ◌∷◌, Option, Some, None, refl, sym, ap, subst, ◌∙◌, Ok, Err, Result, inl, inr, IfOk, arith}
-use Rattle.std.specs.Prelude.{IsErr, ◌↔◌}
+use Rattle.std.specs.Prelude.{IsErr, ◌↔◌, if◌then◌else◌}
 use Rattle.std.specs.declared.alloc.AllocError.{AllocError}
+use Rattle.conn_result.specs.Optional.{optional}
 use Rattle.conn_result.specs.declared.error.Error.{Error}
 use Rattle.conn_result.specs.declared.error.Error.TheVariants.{NotFound, OutOfMemory}
 use Rattle.conn_model.specs.Acts.{Acts, IsSameServer}
+use Rattle.conn_model.specs.Armed.{Values}
 use Rattle.conn_model.specs.Caches.{Known}
 use Rattle.conn_model.specs.Nuls.{nul_place, nul_fault}
 use Rattle.conn_model.specs.Process.{Process, Stop, Sent, Follows, map_process}
@@ -19,16 +21,20 @@ use Rattle.conn_manager.specs.Manages.{Done, done, Reply as Answer, HasServerCau
 use Rattle.conn_manager.specs.Statuses.{Status, reply_of}
 use Rattle.conn_manager.specs.Views.{View, ActsOrMemoryFrom, KeepsCache}
 use Rattle.conn_cache.specs.QueryProcesses.{asked, execute_process, ping_process, ping_view, resized, without_value}
+use Rattle.conn_cache.specs.LoadProcesses.{load_process, rows_heard}
+use Rattle.conn_drivers.specs.Loaded.{LoadsFrom, made_of}
 use Rattle.conn_drivers.specs.Queried.{QueriesFrom}
-use Rattle.conn_reading.specs.Asking.{Outcome, asked_as, declared_process, find_query, outcome, process_of, reply_as, reply_made, told_as, view_of}
+use Rattle.conn_reading.specs.Asking.{Outcome, asked_as, declared_process, find_query, first_of, list_reply, loaded_as, one_reply, optional_reply, outcome, process_of, query_call_process, reply_as, reply_made, row_reply, rows_process, told_as, view_of}
+use Rattle.conn_reading.specs.RowShapes.{shape_reads}
 use Rattle.conn_reading.specs.declared.deed.Deed.{Deed}
 use Rattle.conn_reading.specs.declared.deed.Deed.TheVariants as deeds
 use Rattle.conn_report.specs.declared.entry.Reply.{Reply}
+use Rattle.conn_rows.specs.Lists.{first_answer, list_answer}
 use Rattle.conn_report.specs.declared.entry.Reply.TheVariants as replies
 use Rattle.conn_script.specs.declared.command.QueryCall.{QueryCall}
-use Rattle.conn_script.specs.declared.command.QueryCall.TheVariants.{Exec}
+use Rattle.conn_script.specs.declared.command.QueryCall.TheVariants.{Exec, Load, Each, One, Optional}
 use Rattle.conn_script.specs.declared.query.Declared.{Declared}
-use Rattle.conn_session.specs.Responses.{Asks, Replies, Does, IsAnswer, IsErrorOf, CountsRefusal, IsRefused, answer_reply, count_answer, counts_rows, done_answer}
+use Rattle.conn_session.specs.Responses.{Asks, Replies, Does, IsAnswer, IsErrorOf, CountsRefusal, IsRefused, answer_reply, call_of, done_answer, query_answer}
 
 -- ---- replies
 
@@ -40,9 +46,9 @@ ping_is : (answer : Answer) → reply_made (λ u. replies.Ok) answer ≡ answer_
 ping_is (Ok u) = refl
 ping_is (Err e) = refl
 
-count_is : (r : Result ℕ Error) → reply_made replies.Count r ≡ answer_reply (count_answer r)
-count_is (Ok n) = refl
-count_is (Err e) = refl
+query_is : {A : Type 0} (made : A → Reply) (r : Result A Error) → reply_made made r ≡ answer_reply (query_answer made r)
+query_is made (Ok x) = refl
+query_is made (Err e) = refl
 
 server_error : (text : List ℕ) (answer : Answer) (refusal : Option Refusal) → answer ≡ reply_of refusal → IsAnswer (deeds.Batch text) (reply_as answer)
 server_error text answer None e = subst (λ (a : Answer). IsAnswer (deeds.Batch text) (reply_as a)) (sym e) refl
@@ -57,14 +63,19 @@ text_answered d text None s (i ∷ j ∷ is) a nul h = absurd h.1
 text_answered d text (Some n) s [] a nul h = subst (λ (x : Done). IsAnswer (deeds.Batch text) (reply_as x.reply)) (sym h) (nul n refl)
 text_answered d text (Some n) s (i ∷ is) a nul h = absurd h
 
--- a call that counts no rows answers any error but want of memory
-call_answered : (deed : Deed) (answer : Answer) → counts_rows deed ≡ false → ((e : Error) → e ≢ OutOfMemory → IsErrorOf deed e) → answer ≢ Err OutOfMemory → IsAnswer deed (reply_as answer)
+-- a call that is no query's answers any error but want of memory
+call_answered : (deed : Deed) (answer : Answer) → call_of deed ≡ None → ((e : Error) → e ≢ OutOfMemory → IsErrorOf deed e) → answer ≢ Err OutOfMemory → IsAnswer deed (reply_as answer)
 call_answered deed (Ok u) none errors memory = none
 call_answered deed (Err e) none errors memory = errors e (λ same. memory (ap (λ (x : Error). Err x) same))
 
-count_answered : (call : QueryCall) (n : ℕ) (r : Result ℕ Error) → count_answer r ≢ Err OutOfMemory → IsAnswer (deeds.Query call n) (answer_reply (count_answer r))
-count_answered call n (Ok k) memory = refl
-count_answered call n (Err e) memory = λ same. memory (ap (λ (x : Error). Err x) same)
+-- a query answers what it is made for, or any error but want of memory
+query_answered : {A : Type 0} (call : QueryCall) (n : ℕ) (made : A → Reply) → ((x : A) → IsAnswer (deeds.Query call n) (made x)) → (r : Result A Error) → query_answer made r ≢ Err OutOfMemory → IsAnswer (deeds.Query call n) (answer_reply (query_answer made r))
+query_answered call n made answers (Ok x) memory = answers x
+query_answered call n made answers (Err e) memory = λ same. memory (ap (λ (x : Error). Err x) same)
+
+row_answered : (n : ℕ) (o : Option Values) → IsAnswer (deeds.Query Optional n) (row_reply o)
+row_answered n None = refl
+row_answered n (Some row) = refl
 
 -- ---- refusals
 
@@ -79,13 +90,14 @@ counted_by deed old new answer cause = record { later = cause.later; refused = �
 pub counted_done : (deed : Deed) (old new : Seen) (answer : Answer) → CountsRefusal deed old new (reply_as answer) → CountsRefusal deed old new (answer_reply (done_answer answer))
 counted_done deed old new answer cause = subst (CountsRefusal deed old new) (sym (done_is answer)) cause
 
-query_refusal : (r : Result ℕ Error) → IsRefused (answer_reply (count_answer r)) → IsRefusal (without_value r)
-query_refusal (Ok n) h = absurd h
-query_refusal (Err e) h = h
+-- what is replied for a query is no refusal
+query_refusal : {A : Type 0} (made : A → Reply) → ((x : A) → IsRefused (made x) → ⊥) → (r : Result A Error) → IsRefused (answer_reply (query_answer made r)) → IsRefusal (without_value r)
+query_refusal made none (Ok x) h = absurd (none x h)
+query_refusal made none (Err e) h = h
 
 -- a query whose refusal is its server's
-pub counted_query : (deed : Deed) (old new : Seen) (r : Result ℕ Error) → HasServerCause old new (without_value r) → CountsRefusal deed old new (answer_reply (count_answer r))
-counted_query deed old new r cause = record { later = cause.later; refused = λ h. inl (cause.refused (query_refusal r h)) }
+pub counted_query : {A : Type 0} (made : A → Reply) → ((x : A) → IsRefused (made x) → ⊥) → (deed : Deed) (old new : Seen) (r : Result A Error) → HasServerCause old new (without_value r) → CountsRefusal deed old new (answer_reply (query_answer made r))
+counted_query made none deed old new r cause = record { later = cause.later; refused = λ h. inl (cause.refused (query_refusal made none r h)) }
 
 -- no server was asked
 pub counted_none : (deed : Deed) (s : Seen) (r : Reply) → (IsRefused r → ⊥) → CountsRefusal deed s s r
@@ -99,7 +111,7 @@ module _ (honest : Bool) (queries : List Declared) (old new : View) where
       → ((sent : List Sent) → answer ≢ Err OutOfMemory → Follows (call old.seen.dialect old.status) sent (done answer new.status) → IsAnswer deed (reply_as answer)) → ActsOrMemoryFrom honest call old new answer → KeepsCache old new
       → Asks honest queries deed old new (done_answer answer)
   call_asked deed call answer same answers asks kept = elim asks [
-    | inl h ↦ inl (ap done_answer h.0, h.1)
+    | inl h ↦ inl (ap done_answer h.0, h.1.same)
     | inr acts ↦ inr (
         let p : Process Outcome = map_process (told_as old.cache) (call old.seen.dialect old.status) in
         let last : Outcome = outcome (answer_reply (done_answer answer)) new.status new.cache in
@@ -120,27 +132,70 @@ module _ (honest : Bool) (queries : List Declared) (old new : View) where
 
   -- a call of the manager, whose errors are any but want of memory
   pub manager_asked : (deed : Deed) (call : Dialect → Status → Process Done) (answer : Answer) → ((d : Dialect) (s : Status) (c : Known) → process_of d queries s c deed ≡ map_process (told_as c) (call d s))
-      → counts_rows deed ≡ false → ((e : Error) → e ≢ OutOfMemory → IsErrorOf deed e) → ActsOrMemoryFrom honest call old new answer → KeepsCache old new → Asks honest queries deed old new (done_answer answer)
+      → call_of deed ≡ None → ((e : Error) → e ≢ OutOfMemory → IsErrorOf deed e) → ActsOrMemoryFrom honest call old new answer → KeepsCache old new → Asks honest queries deed old new (done_answer answer)
   manager_asked deed call answer same none errors asks kept = call_asked deed call answer same (λ sent memory follows. call_answered deed answer none errors memory) asks kept
 
   -- a query that is executed
-  pub query_asked : (call : QueryCall) (n : ℕ) (q : Declared) (r : Result ℕ Error) → find_query n queries ≡ Some q → QueriesFrom honest (view_of q) (λ d. execute_process d (view_of q)) old new r
-      → Asks honest queries (deeds.Query call n) old new (count_answer r)
-  query_asked Exec n q r found asks = elim asks [
-    | inl idle ↦ inl (ap count_answer idle.is, idle.untouched)
+  pub exec_asked : (n : ℕ) (q : Declared) (r : Result ℕ Error) → find_query n queries ≡ Some q → QueriesFrom honest (view_of q) (λ d. execute_process d (view_of q)) old new r
+      → Asks honest queries (deeds.Query Exec n) old new (query_answer replies.Count r)
+  exec_asked n q r found asks = elim asks [
+    | inl idle ↦ inl (ap (query_answer replies.Count) idle.is, idle.untouched.same)
     | inr tells ↦ inr (
         let p = execute_process old.seen.dialect (view_of q) old.status old.cache in
         let last : Reply → Outcome = λ (x : Reply). outcome x new.status new.cache in
         record {
-          acts = subst (λ (o : Option Declared). Acts honest (declared_process old.seen.dialect Exec o old.status old.cache) old.seen new.seen (last (answer_reply (count_answer r)))) (sym found)
-              (subst (λ (x : Reply). Acts honest (map_process (asked_as replies.Count) p) old.seen new.seen (last x)) (count_is r) (acts_map (asked_as replies.Count) honest p old.seen new.seen (asked r new.status new.cache) tells.acts));
-          answers = count_answered Exec n r;
+          acts = subst (λ (o : Option Declared). Acts honest (declared_process old.seen.dialect Exec o old.status old.cache) old.seen new.seen (last (answer_reply (query_answer replies.Count r)))) (sym found)
+              (subst (λ (x : Reply). Acts honest (map_process (asked_as replies.Count) p) old.seen new.seen (last x)) (query_is replies.Count r) (acts_map (asked_as replies.Count) honest p old.seen new.seen (asked r new.status new.cache) tells.acts));
+          answers = query_answered Exec n replies.Count (λ k. refl) r;
         })
   ]
 
+  -- a query whose rows are loaded, for a call whose process makes this reply of them
+  module _ {A : Type 0} (call : QueryCall) (made : List Values → Result A Error) (reply : Result (List Values) Error → Reply) (answer : Result A Error → Result Reply Error) (n : ℕ) (q : Declared) (found : find_query n queries ≡ Some q) (r : Result A Error) where
+    load_asked : ((d : Dialect) (s : Status) (c : Known) → query_call_process d call q.shape (view_of q) s c ≡ rows_process reply d (view_of q) s c) → ((rows : Result (List Values) Error) → reply rows ≡ answer_reply (answer (made_of made rows))) → answer (Err OutOfMemory) ≡ Err OutOfMemory
+        → (answer r ≢ Err OutOfMemory → IsAnswer (deeds.Query call n) (answer_reply (answer r))) → LoadsFrom honest (view_of q) made old new r → Asks honest queries (deeds.Query call n) old new (answer r)
+    load_asked process replied wanting answers asks = elim asks [
+      | inl idle ↦ inl (ap answer idle.is ∙ wanting, idle.untouched.same)
+      | inr asks ↦ elim asks [
+        | inl lacks ↦ inl (ap answer lacks.is ∙ wanting, lacks.tells.acts.same)
+        | inr loads ↦ elim loads.answers [
+          | inr want ↦ inl (ap answer want ∙ wanting, loads.tells.acts.same)
+          | inl is ↦ inr (
+              let p = load_process rows_heard old.seen.dialect (view_of q) old.status old.cache in
+              let last : Reply → Outcome = λ (x : Reply). outcome x new.status new.cache in
+              let acts : Acts honest (rows_process reply old.seen.dialect (view_of q) old.status old.cache) old.seen new.seen (last (reply loads.rows)) = acts_map (loaded_as reply) honest p old.seen new.seen (asked loads.rows new.status new.cache) loads.tells.acts in
+              record {
+                acts = subst (λ (o : Option Declared). Acts honest (declared_process old.seen.dialect call o old.status old.cache) old.seen new.seen (last (answer_reply (answer r)))) (sym found)
+                    (subst (λ (x : Process Outcome). Acts honest x old.seen new.seen (last (answer_reply (answer r)))) (sym (process old.seen.dialect old.status old.cache))
+                    (subst (λ (x : Reply). Acts honest (rows_process reply old.seen.dialect (view_of q) old.status old.cache) old.seen new.seen (last x)) (replied loads.rows ∙ ap (λ (x : Result A Error). answer_reply (answer x)) (sym is)) acts));
+                answers = answers;
+              })
+        ]
+      ]
+    ]
+
+  -- all its rows are loaded
+  pub list_asked : (row_by_row : Bool) (n : ℕ) (q : Declared) (r : Result (List Values) Error) → find_query n queries ≡ Some q → LoadsFrom honest (view_of q) (list_answer (shape_reads q.shape)) old new r
+      → Asks honest queries (deeds.Query (if row_by_row then Each else Load) n) old new (query_answer replies.Rows r)
+  list_asked false n q r found asks =
+      load_asked Load (list_answer (shape_reads q.shape)) (list_reply q.shape) (query_answer replies.Rows) n q found r (λ d s c. refl) (λ rows. query_is replies.Rows (made_of (list_answer (shape_reads q.shape)) rows)) refl (query_answered Load n replies.Rows (λ rows. refl) r) asks
+  list_asked true n q r found asks =
+      load_asked Each (list_answer (shape_reads q.shape)) (list_reply q.shape) (query_answer replies.Rows) n q found r (λ d s c. refl) (λ rows. query_is replies.Rows (made_of (list_answer (shape_reads q.shape)) rows)) refl (query_answered Each n replies.Rows (λ rows. refl) r) asks
+
+  -- its first row is loaded
+  pub one_asked : (n : ℕ) (q : Declared) (r : Result Values Error) → find_query n queries ≡ Some q → LoadsFrom honest (view_of q) (first_answer (shape_reads q.shape)) old new r → Asks honest queries (deeds.Query One n) old new (query_answer replies.OneRow r)
+  one_asked n q r found asks =
+      load_asked One (first_answer (shape_reads q.shape)) (one_reply q.shape) (query_answer replies.OneRow) n q found r (λ d s c. refl) (λ rows. query_is replies.OneRow (first_of q.shape rows)) refl (query_answered One n replies.OneRow (λ row. refl) r) asks
+
+  -- where there is one
+  pub optional_asked : (n : ℕ) (q : Declared) (r : Result Values Error) → find_query n queries ≡ Some q → LoadsFrom honest (view_of q) (first_answer (shape_reads q.shape)) old new r
+      → Asks honest queries (deeds.Query Optional n) old new (query_answer row_reply (optional r))
+  optional_asked n q r found asks =
+      load_asked Optional (first_answer (shape_reads q.shape)) (optional_reply q.shape) (λ x. query_answer row_reply (optional x)) n q found r (λ d s c. refl) (λ rows. query_is row_reply (optional (first_of q.shape rows))) refl (query_answered Optional n row_reply (row_answered n) (optional r)) asks
+
   pub ping_asked : (answer : Answer) → QueriesFrom honest ping_view ping_process old new answer → Asks honest queries deeds.Ping old new (done_answer answer)
   ping_asked answer asks = elim asks [
-    | inl idle ↦ inl (ap done_answer idle.is, idle.untouched)
+    | inl idle ↦ inl (ap done_answer idle.is, idle.untouched.same)
     | inr tells ↦ inr (
         let p = ping_process old.seen.dialect old.status old.cache in
         record {
@@ -155,7 +210,7 @@ module _ (honest : Bool) (queries : List Declared) (old new : View) where
   does deed answer asks cause result = by_result result
     where
       same_server : IsSameServer old.seen new.seen
-      same_server = elim asks [ inl h ↦ h.1.same | inr h ↦ h.acts.same ]
+      same_server = elim asks [ inl h ↦ h.1 | inr h ↦ h.acts.same ]
 
       answered : (reply : Reply) → reply ≡ answer_reply answer → answer ≢ Err OutOfMemory → Replies honest queries deed old new reply
       answered reply e memory = subst (Replies honest queries deed old new) (sym e) (elim asks [

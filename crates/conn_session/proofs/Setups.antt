@@ -12,7 +12,7 @@ use Rattle.conn_result.specs.declared.error.Error.TheVariants.{DatabaseError}
 use Rattle.conn_result.specs.Causes.{Rose}
 use Rattle.conn_model.specs.Acts.{Acts}
 use Rattle.conn_model.specs.Caches.{Known, nothing_known}
-use Rattle.conn_model.specs.Armed.{Armed}
+use Rattle.conn_model.specs.Armed.{Armed, armed_of}
 use Rattle.conn_model.specs.Process.{Process, Sent, Follows}
 use Rattle.conn_model.specs.Seen.{Seen}
 use Rattle.conn_model.specs.States.{State, Idle, state_of}
@@ -58,7 +58,7 @@ use Rattle.conn_session.proofs.Totals
 
 -- where the reading stands, by what changes
 abbrev stands : World → Context → ℕ → List PlanLine → Progress
-stands w context attempts plan = record { context = context; attempts = attempts; plan = plan; armed = []; queries = w.pool.queries; dialect = w.pool.dialect; url = w.pool.url }
+stands w context attempts plan = record { context = context; attempts = attempts; plan = plan; armed = armed_of plan; queries = w.pool.queries; dialect = w.pool.dialect; url = w.pool.url }
 
 same_stand : (w : World) (c g : Context) (a b : ℕ) (p q : List PlanLine) → c ≡ g → a ≡ b → p ≡ q → stands w c a p ≡ stands w g b q
 same_stand w c g a b p q s t u = cc (s, t, u)
@@ -335,10 +335,10 @@ module _ (honest tells : Bool) (honest_tells : honest ≡ true → tells ≡ tru
     state_is : state_told last ≡ r.state
     state_is = (let same : Some (state_told last) ≡ Some r.state = sym (state_of_log last r.more (s.honest (honest_tells h)).1 r.is_log) ∙ ap (λ (x : Dialect). state_of x r.more) s.set_up.acts.same.dialect ∙ r.lawful in cc same)
 
-    read_so : ReadsItems d [] (Idle []) (setup_process d no_depth) r.more a (state_told last)
+    read_so : ReadsItems d (armed_of w.connector.armed) (Idle []) (setup_process d no_depth) r.more a (state_told last)
     read_so =
-        subst (λ (x : Dialect). ReadsItems x [] (Idle []) (setup_process x no_depth) r.more a (state_told last)) s.opened.opens.is_new.dialect_is
-        (subst (λ (armed : List Armed). ReadsItems s.first.dialect armed (Idle []) (setup_process s.first.dialect no_depth) r.more a (state_told last)) s.opened.opens.is_new.armed_is
+        subst (λ (x : Dialect). ReadsItems x (armed_of w.connector.armed) (Idle []) (setup_process x no_depth) r.more a (state_told last)) s.opened.opens.is_new.dialect_is
+        (subst (λ (armed : List Armed). ReadsItems s.first.dialect armed (Idle []) (setup_process s.first.dialect no_depth) r.more a (state_told last)) (s.opened.opens.armed h)
         (subst (λ (x : State). ReadsItems s.first.dialect s.first.armed (Idle []) (setup_process s.first.dialect no_depth) r.more a x) (sym state_is) r.reads))
 
     mark_is : last.sent ≡ length r.more
@@ -354,7 +354,7 @@ module _ (honest tells : Bool) (honest_tells : honest ≡ true → tells ≡ tru
     last_has = record {
       honest = (s.honest (honest_tells h)).1;
       dialect_is = s.set_up.acts.same.dialect ∙ s.opened.opens.is_new.dialect_is;
-      armed_is = s.set_up.acts.same.armed ∙ s.opened.opens.is_new.armed_is;
+      armed_is = s.set_up.acts.same.armed ∙ s.opened.opens.armed h;
       log_is = r.is_log ∙ ap (λ (l : List Item). Some l) (sym (ap grown last_number ∙ ap (λ (l : List Item). l ++ only m r.more m) (known.fresh m (omega arith)) ∙ only_same m r.more));
       orders = λ item. ap (λ (o : ℕ → Option Order). o item) s.set_up.acts.same.orders ∙ s.opened.opens.orders h item ∙ ap (λ (k : ℕ). planned w.connector.armed k item) (sym last_number);
     }

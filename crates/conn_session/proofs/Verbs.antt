@@ -108,6 +108,9 @@ module _ (counts : ℕ → ℕ) (n : ℕ) (reply : Reply) where
   opened_caused replies.NoneFree = tt
   opened_caused replies.Skipped = tt
   opened_caused (replies.Count k) = tt
+  opened_caused (replies.Rows rows) = tt
+  opened_caused (replies.OneRow row) = tt
+  opened_caused replies.NoRow = tt
   opened_caused (replies.Error e) = tt
   opened_caused (replies.Pool e) = tt
 
@@ -138,6 +141,9 @@ module _ (counts : ℕ → ℕ) (n : ℕ) (reply : Reply) where
       by_reply replies.NoneFree g = all
       by_reply replies.Skipped g = all
       by_reply (replies.Count k) g = all
+      by_reply (replies.Rows rows) g = all
+      by_reply (replies.OneRow row) g = all
+      by_reply replies.NoRow g = all
       by_reply (replies.Error e) g = refusal_caused e blocks g all
       by_reply (replies.Pool e) g = all
 

@@ -1,6 +1,7 @@
 -- Over honest servers: their logs are known, and what a command adds to them is read for it.
 use Rattle.std.specs.Prelude.{ℕ, ◌≡◌, ◌≤◌, ⊤, List, [], ◌++◌, Option, Some, None}
 use Rattle.std.specs.List.{AllByRecursion}
+use Rattle.conn_model.specs.Armed.{armed_of}
 use Rattle.conn_model.specs.Seen.{Seen, IsHonest}
 use Rattle.conn_model.specs.declared.item.Dialect.{Dialect}
 use Rattle.conn_model.specs.declared.plan.PlanLine.{PlanLine}
@@ -12,11 +13,11 @@ use Rattle.conn_server.specs.Ordered.{planned}
 use Rattle.conn_manager.specs.Views.{View}
 use Rattle.conn_session.specs.Worlds.{World, context_of}
 
--- an honest server of this dialect, armed with no rows, with the log of its number and the orders that the plan has for it
+-- an honest server of this dialect, armed with the plan's rows, with the log of its number and the orders that the plan has for it
 pub record Has (d : Dialect) (plan : List PlanLine) (logs : ServerLogs) (s : Seen) : Type 0 where
   pub honest : IsHonest s
   pub dialect_is : s.dialect ≡ d
-  pub armed_is : s.armed ≡ []
+  pub armed_is : s.armed ≡ armed_of plan
   pub log_is : s.log ≡ Some (logs s.number)
   pub orders : (item : ℕ) → s.orders item ≡ planned plan s.number item
 
@@ -38,7 +39,7 @@ pub record IsKnown (logs : ServerLogs) (w : World) : Type 0 where
 
 -- where the reading of the logs stands
 abbrev pub progress : World → Progress
-progress w = record { context = context_of w; attempts = w.connector.attempts; plan = w.connector.armed; armed = []; queries = w.pool.queries; dialect = w.pool.dialect; url = w.pool.url }
+progress w = record { context = context_of w; attempts = w.connector.attempts; plan = w.connector.armed; armed = armed_of w.connector.armed; queries = w.pool.queries; dialect = w.pool.dialect; url = w.pool.url }
 
 -- the logs with these items more
 abbrev pub with_more : ServerLogs → ServerLogs → ServerLogs

@@ -11,13 +11,15 @@ use Rattle.conn_model.specs.Acts.{Acts, IsSameServer}
 use Rattle.conn_model.specs.Nuls.{nul_place}
 use Rattle.conn_model.specs.Seen.{Seen, state_seen}
 use Rattle.conn_model.specs.States.{State, Idle}
-use Rattle.conn_manager.specs.Manages.{IsRefusal, IsUntouched, Reply as Answer}
+use Rattle.conn_manager.specs.Manages.{IsRefusal, Reply as Answer}
 use Rattle.conn_manager.specs.Views.{View}
 use Rattle.conn_reading.specs.Asking.{outcome, process_of, reply_made}
 use Rattle.conn_reading.specs.Seats.{Seat, make_entry, entry_without}
 use Rattle.conn_report.specs.declared.entry.Entry.{Entry}
 use Rattle.conn_report.specs.declared.entry.Reply.{Reply}
 use Rattle.conn_report.specs.declared.entry.Reply.TheVariants as replies
+use Rattle.conn_script.specs.declared.command.QueryCall.{QueryCall}
+use Rattle.conn_script.specs.declared.command.QueryCall.TheVariants.{Exec, Load, Each, One, Optional}
 use Rattle.conn_script.specs.declared.command.Word.TheVariants as words
 use Rattle.conn_script.specs.declared.query.Declared.{Declared}
 use Rattle.conn_server.specs.Connected.{sent_by}
@@ -85,15 +87,30 @@ IsErrorOf (deeds.Batch text) e = IsTextError text e
 IsErrorOf (deeds.CacheSize size) e = ⊥
 IsErrorOf _ e = e ≢ OutOfMemory
 
--- what a deed does is told by a count of rows
-abbrev pub counts_rows : Deed → Bool
-counts_rows (deeds.Query call n) = true
-counts_rows _ = false
+-- the call of a query, where the deed is one
+abbrev pub call_of : Deed → Option QueryCall
+call_of (deeds.Query call n) = Some call
+call_of _ = None
 
--- a reply to a deed
+-- it loads all rows
+abbrev pub loads_all : Option QueryCall → Bool
+loads_all (Some Load) = true
+loads_all (Some Each) = true
+loads_all _ = false
+
+-- it loads the first row
+abbrev pub loads_first : Option QueryCall → Bool
+loads_first (Some One) = true
+loads_first (Some Optional) = true
+loads_first _ = false
+
+-- a reply to a deed: a query's is what its call is made for
 abbrev pub IsAnswer : Deed → Reply → Type 0
-IsAnswer deed replies.Ok = counts_rows deed ≡ false
-IsAnswer deed (replies.Count n) = counts_rows deed ≡ true
+IsAnswer deed replies.Ok = call_of deed ≡ None
+IsAnswer deed (replies.Count n) = call_of deed ≡ Some Exec
+IsAnswer deed (replies.Rows rows) = loads_all (call_of deed) ≡ true
+IsAnswer deed (replies.OneRow row) = loads_first (call_of deed) ≡ true
+IsAnswer deed replies.NoRow = call_of deed ≡ Some Optional
 IsAnswer deed (replies.Error e) = IsErrorOf deed e
 IsAnswer deed _ = ⊥
 
@@ -112,10 +129,10 @@ abbrev pub done_answer : Answer → Result Reply Error
 done_answer (Ok u) = Ok replies.Ok
 done_answer (Err e) = Err e
 
--- the answer of a query that was executed
-abbrev pub count_answer : Result ℕ Error → Result Reply Error
-count_answer (Ok n) = Ok (replies.Count n)
-count_answer (Err e) = Err e
+-- the answer of a query, whose value is replied so
+abbrev pub query_answer : {A : Type 0} → (A → Reply) → Result A Error → Result Reply Error
+query_answer made (Ok x) = Ok (made x)
+query_answer made (Err e) = Err e
 
 -- the reply that an answer stands for
 abbrev pub answer_reply : Result Reply Error → Reply
@@ -128,9 +145,9 @@ module _ (honest : Bool) (queries : List Declared) (deed : Deed) (old new : View
     pub acts : Acts honest (process_of old.seen.dialect queries old.status old.cache deed) old.seen new.seen (outcome (answer_reply answer) new.status new.cache)
     pub answers : answer ≢ Err OutOfMemory → IsAnswer deed (answer_reply answer)
 
-  -- the deed was asked: it was done, or the connection answers want of memory and did nothing
+  -- the deed was asked: it was done, or the connection answers want of memory and has the same server
   abbrev pub Asks : Result Reply Error → Type 0
-  Asks answer = ((answer ≡ Err OutOfMemory) × IsUntouched old.seen new.seen old.status new.status) ⊎ IsDone answer
+  Asks answer = ((answer ≡ Err OutOfMemory) × IsSameServer old.seen new.seen) ⊎ IsDone answer
 
   -- the deed was answered: the connection acted by its process, and a refusal in the reply was counted
   pub record Replies (reply : Reply) : Type 0 where

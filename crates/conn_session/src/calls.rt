@@ -2,21 +2,25 @@
 ghost use Rattle.std.specs.Prelude.{◌≡◌, ◌↔◌, ℕ, List, Some, IfOk, IsErr, Err};
 ghost use Rattle.conn_result.specs.declared.error.Error.TheVariants.{OutOfMemory as out_of_memory};
 ghost use Rattle.conn_manager.specs.Views.{ActsOrMemoryFrom, KeepsCache};
-ghost use Rattle.conn_reading.specs.Asking.{close_process, find_query, reply_as, rollback_answer};
+ghost use Rattle.conn_drivers.specs.Loaded.{listed};
+ghost use Rattle.conn_reading.specs.Asking.{close_process, find_query, reply_as, rollback_answer, row_reply};
+ghost use Rattle.conn_report.specs.declared.entry.Reply.TheVariants.{Count, Rows, OneRow};
 ghost use Rattle.conn_reading.specs.Seats.{entry_on};
 ghost use Rattle.conn_reading.specs.declared.deed.Deed.{Deed as deed_type};
 ghost use Rattle.conn_reading.specs.declared.deed.Deed.TheVariants.{Close as close_deed, Query as query_deed};
 ghost use Rattle.conn_script.specs.declared.query.Declared.{Declared as declared_type};
-ghost use Rattle.conn_session.specs.Responses.{answer_reply, count_answer, done_answer, seat_of, wants_memory, Asks, Does, CountsRefusal};
+ghost use Rattle.conn_session.specs.Responses.{answer_reply, done_answer, query_answer, seat_of, wants_memory, Asks, Does, CountsRefusal};
 
 use crate::queries::{Queries, ScriptQuery};
 use conn_drivers::R2D2Connection;
 use conn_manager::{AnsiTransactionManager, Connection};
+use conn_model::Row;
 use conn_reading::Deed;
 use conn_report::{Entry, Reply};
-use conn_result::{Error, QueryResult};
+use conn_result::{Error, OptionalExtension, QueryResult};
 use conn_script::{BlockKind, QueryCall, Word};
-use std::alloc::AllocError;
+use sqlite_items::Items;
+use std::alloc::{AllocError, Global};
 
 /// Whether a call wanted memory.
 fn wants_memory(answer: &QueryResult<()>) -> bool
@@ -47,10 +51,41 @@ fn done_answer(answer: QueryResult<()>) -> QueryResult<Reply>
 
 /// The answer of a query that was executed.
 fn count_answer(answer: QueryResult<usize>) -> QueryResult<Reply>
-    ensures { result ≡ count_answer answer }
+    ensures { result ≡ query_answer Count answer }
 {
     match answer {
         Ok(count) => Ok(Reply::Count(count as u64)),
+        Err(e) => Err(e),
+    }
+}
+
+/// The answer of a query all of whose rows were loaded.
+fn rows_answer(answer: QueryResult<Vec<Row>>) -> QueryResult<Reply>
+    ensures { result ≡ query_answer Rows (listed answer) }
+{
+    match answer {
+        Ok(rows) => Ok(Reply::Rows(Items::from_vec(rows))),
+        Err(e) => Err(e),
+    }
+}
+
+/// The answer of a query whose first row was to be there.
+fn row_answer(answer: QueryResult<Row>) -> QueryResult<Reply>
+    ensures { result ≡ query_answer OneRow answer }
+{
+    match answer {
+        Ok(row) => Ok(Reply::OneRow(row)),
+        Err(e) => Err(e),
+    }
+}
+
+/// The answer of a query whose first row may be missing.
+fn optional_answer(answer: QueryResult<Option<Row>>) -> QueryResult<Reply>
+    ensures { result ≡ query_answer row_reply answer }
+{
+    match answer {
+        Ok(Some(row)) => Ok(Reply::OneRow(row)),
+        Ok(None) => Ok(Reply::NoRow),
         Err(e) => Err(e),
     }
 }
@@ -108,6 +143,7 @@ fn close<C: Connection>(
 
 /// Makes a query of the script what is asked of it.
 fn query<C: R2D2Connection>(
+    alloc: Global,
     connection: &mut C,
     call: QueryCall,
     query: &ScriptQuery<'_>,
@@ -118,13 +154,21 @@ fn query<C: R2D2Connection>(
     ensures cause { (deed : deed_type) → CountsRefusal deed (C.view connection.old).seen
         (C.view connection.new).seen (answer_reply result) }
 {
+    let reader = query.reader();
     match call {
         QueryCall::Exec => count_answer(connection.execute_returning_count(query)),
+        QueryCall::Load => rows_answer(connection.load_list_by(alloc, query, &reader, false)),
+        QueryCall::Each => rows_answer(connection.load_list_by(alloc, query, &reader, true)),
+        QueryCall::One => row_answer(connection.get_result_by(alloc, query, &reader)),
+        QueryCall::Optional => {
+            optional_answer(connection.get_result_by(alloc, query, &reader).optional())
+        }
     }
 }
 
 /// Asks what a deed asks.
 fn ask<C: R2D2Connection>(
+    alloc: Global,
     connection: &mut C,
     queries: &Queries<'_>,
     deed: &Deed<'_>,
@@ -142,7 +186,7 @@ fn ask<C: R2D2Connection>(
         Deed::TestBegin => done_answer(connection.begin_test_transaction()),
         Deed::Close(kind, answer) => done_answer(close(connection, *kind, *answer)),
         Deed::Query(call, number) => match queries.find(*number) {
-            Some(found) => query(connection, *call, found),
+            Some(found) => query(alloc, connection, *call, found),
             None => Err(Error::NotFound),
         },
         Deed::CacheSize(size) => {
@@ -155,6 +199,7 @@ fn ask<C: R2D2Connection>(
 
 /// Does a deed, and gives its reply.
 pub fn act<C: R2D2Connection>(
+    alloc: Global,
     connection: &mut C,
     queries: &Queries<'_>,
     deed: &Deed<'_>,
@@ -162,7 +207,7 @@ pub fn act<C: R2D2Connection>(
     ensures { Does C.is_honest queries.now deed.now
         (C.view connection.old) (C.view connection.new) result }
 {
-    reply_to(ask(connection, queries, deed))
+    reply_to(ask(alloc, connection, queries, deed))
 }
 
 /// The entry of a command on this connection.

@@ -4,6 +4,7 @@
 mod calls;
 mod places;
 mod queries;
+mod row_shapes;
 mod session;
 mod top;
 mod transcript;

@@ -15,7 +15,7 @@ use conn_report::{Entry, Reply};
 use conn_result::ConnectionError;
 use conn_script::Word;
 use conn_server::Connector;
-use std::alloc::AllocError;
+use std::alloc::{AllocError, Global};
 
 /// The entry of a command where no connection is there.
 pub fn entry_without(line: u32, word: Word, connection: Option<u32>, reply: Reply) -> Entry
@@ -69,6 +69,7 @@ pub fn is_kept(status: &TransactionManagerStatus) -> bool
 
 /// Does a deed on the connection at a place, where there is one.
 pub fn act_in<C: R2D2Connection>(
+    alloc: Global,
     place: &mut Option<C>,
     queries: &Queries<'_>,
     deed: &Deed<'_>,
@@ -78,7 +79,7 @@ pub fn act_in<C: R2D2Connection>(
 {
     match place {
         None => None,
-        Some(connection) => Some(act(connection, queries, deed)),
+        Some(connection) => Some(act(alloc, connection, queries, deed)),
     }
 }
 

@@ -6,6 +6,7 @@ ghost use Rattle.conn_reading.specs.Asking.{find_query, view_of};
 ghost use Rattle.conn_reading.specs.Seats.{at_number};
 ghost use Rattle.conn_session.specs.Finds.{with_placed};
 
+use crate::row_shapes::ShapeReader;
 use conn_cache::Query;
 use conn_model::{Bind, BindType, BindTypes};
 use conn_script::{Declared, Safety};
@@ -48,6 +49,15 @@ impl<'s> ScriptQuery<'s> {
     {
         let types = types_of(alloc, declared.binds.as_slice())?;
         Ok(ScriptQuery { declared, types })
+    }
+}
+
+impl<'s> ScriptQuery<'s> {
+    /// What its rows are read by.
+    pub fn reader(&self) -> ShapeReader<'s>
+        ensures { result ≡ self.now.shape }
+    {
+        ShapeReader::new(&self.declared.shape)
     }
 }
 

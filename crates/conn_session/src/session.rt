@@ -212,12 +212,13 @@ impl<'s, C: MultiConnection + Connection<Handler = NoInstrumentation> + Drop> Se
             (world_of C.view self.new (K.held connector.now)) result }
     {
         let place = n as usize;
-        if place < self.out.len() {
-            if let Some(result) = act_in(&mut self.out[place], &self.queries, deed) {
-                return result;
-            }
+        if place >= self.out.len() {
+            return Ok(Reply::NotOut);
         }
-        Ok(Reply::NotOut)
+        match act_in(self.alloc, &mut self.out[place], &self.queries, deed) {
+            Some(result) => result,
+            None => Ok(Reply::NotOut),
+        }
     }
 
     /// The entry of a command with this reply, which shows its connection where it is out.

@@ -3,8 +3,11 @@ ghost use Rattle.std.specs.Prelude.{◌^◌, [], None, false};
 ghost use Rattle.std.proofs.lemmas.Bool.{false≢true};
 
 use conn_result::DatabaseErrorKind;
-use conn_server::{Bind, BindType, Dialect, Prepared, Refusal, RunReply, RunSource, Server, Told};
-use std::alloc::AllocError;
+use conn_server::{
+    Bind, BindType, Dialect, Notification, Prepared, Refusal, Row, RowRefusal, RunReply, RunSource,
+    Server, Told,
+};
+use std::alloc::{AllocError, Global};
 
 /// What a server answers to a text, and tells after it.
 #[derive(Clone, Copy)]
@@ -111,10 +114,18 @@ impl Server for TellingServer {
         Err(UNASKED)
     }
 
+    fn next_row(&mut self, _alloc: Global) -> Result<Option<Row>, RowRefusal> {
+        Ok(None)
+    }
+
     fn close_statement(&mut self, _statement: u64) {}
 
     fn told(&mut self) -> Told {
         self.told
+    }
+
+    fn notify(&mut self) -> Option<Notification> {
+        None
     }
 
     fn number(&self) -> u32 {

@@ -6,4 +6,6 @@ mod query_tests;
 #[cfg(test)]
 mod report_tests;
 #[cfg(test)]
+mod row_tests;
+#[cfg(test)]
 mod tests;

@@ -49,6 +49,9 @@ returns-in-Close-clause-asks g c =
     rw (c.in-Close.is, c.done_answer-in-Close.ensures)
     (manager_asked C.is_honest c.args.queries.now (C.view c.args.connection.now) (C.view c.close.new.connection) (deeds.Close kind answer) (close_process kind answer) c.close.result (λ d s k. refl) refl (λ e m. m) c.close.ensures.acts c.close.ensures.cache)
 
+pub returns-in-Some-clause-cause : goal.returns-in-Some-clause-cause
+returns-in-Some-clause-cause g c = c.query.ensures.cause c.args.deed.now
+
 -- the script declares no such query
 pub returns-in-None-clause-asks : goal.returns-in-None-clause-asks
 returns-in-None-clause-asks g c =

@@ -1,4 +1,4 @@
-use Rattle.std.proofs.Common.{◌≡◌, rules, refl, subst, sym, ap, ◌∙◌, Err, None, Result, Some}
+use Rattle.std.proofs.Common.{◌≡◌, false, inl, inr, rules, refl, subst, sym, ap, ◌∙◌, Err, None, Result, Some}
 use Rattle.std.specs.Prelude.{IfErr}
 use Rattle.conn_result.specs.declared.error.Error.{Error}
 use Rattle.conn_result.specs.declared.error.Error.TheVariants.{OutOfMemory}
@@ -6,9 +6,10 @@ use Rattle.conn_model.specs.Seen.{Seen}
 use Rattle.conn_model.specs.declared.item.Dialect.{Dialect}
 use Rattle.conn_cache.specs.Faults.{query_fault}
 use Rattle.conn_manager.specs.Views.{View}
+use Rattle.conn_cache.specs.QueryProcesses.{counted}
 use Rattle.conn_drivers.specs.Queried.{known_of}
 use Rattle.conn_drivers.specs.Raws.{shows}
-use Rattle.conn_drivers.proofs.Querying.{fault_between, idle_between, wire_between}
+use Rattle.conn_drivers.proofs.Querying.{fault_ends, is_idle, wire_between}
 use Rattle.conn_drivers.proofs.raw.RawConnection.query.Goals as goal
 
 pub returns-in_err-reserve_for-clause-queries : goal.returns-in_err-reserve_for-clause-queries
@@ -25,7 +26,7 @@ returns-in_err-reserve_for-clause-queries g c =
     let is : room.result ≡ Err e = search rules in
     let answers : c.from_residual.result ≡ Err e = search rules in
     let memory : e ≡ OutOfMemory = subst (λ (r : Result _ Error). IfErr r (λ x. x ≡ OutOfMemory)) is room.ensures.err in
-    idle_between S.is_honest q old roomy new room.ensures.reserved.keeps refl c.from_residual.result (answers ∙ ap (λ (x : Error). Err x) memory) here
+    inl (is_idle S.is_honest q old roomy new room.ensures.reserved.keeps refl c.from_residual.result (answers ∙ ap (λ (x : Error). Err x) memory) here)
 
 pub returns-in-Some-clause-queries : goal.returns-in-Some-clause-queries
 returns-in-Some-clause-queries g c =
@@ -39,7 +40,7 @@ returns-in-Some-clause-queries g c =
     let here : new ≡ roomy = λ j. record { seen = S.seen room.new.self.wire.server; status = room.ensures.status j; heeded = told (room.ensures.handler j); cache = known_of (room.ensures.cache j) } in
     let d : (S.seen room.new.self.wire.server).dialect ≡ old.seen.dialect = ap (λ (x : Seen). x.dialect) room.ensures.reserved.keeps in
     let found : query_fault (S.seen room.new.self.wire.server).dialect q ≡ Some c.in-Some.e = cc in
-    fault_between S.is_honest q old roomy new room.ensures.reserved.keeps refl c.in-Some.e (ap (λ (x : Dialect). query_fault x q) (sym d) ∙ found) here
+    inr (fault_ends S.is_honest q old roomy new room.ensures.reserved.keeps refl false (counted q) c.in-Some.e (ap (λ (x : Dialect). query_fault x q) (sym d) ∙ found) here)
 
 pub returns-in-None-clause-queries : goal.returns-in-None-clause-queries
 returns-in-None-clause-queries g c =

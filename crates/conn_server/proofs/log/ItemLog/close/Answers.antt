@@ -17,14 +17,14 @@ returns-then-place-len-clause-items c =
     items-shut xs old.binds.binds old.calls.items 0 rs c.args.statement r here ∙ ap (λ (l : Log). l.items) c.self.view_is
 
 pub returns-then-place-len-clause-statements : goal.returns-then-place-len-clause-statements
-returns-then-place-len-clause-statements c =
+returns-then-place-len-clause-statements c = λ armed.
     let old = c.self.inside in
     let xs = string_bytes old.buffer in
     let rs = old.records.items in
     let r = c.index_mut.result.now in
     let here : slice_get rs c.args.statement ≡ Some r = slice_get-get_or rs c.args.statement r (omega (arith, old.records.ok.0, c.len.ensures, c.if-place-len.true)) ∙ ap Some (sym c.index_mut.ensures.value) in
-    closed_from xs 0 rs c.args.statement r here ∙ ap (λ (n : ℕ). without_open n (open_statements (statements_from xs 0 rs))) (omega arith)
-    ∙ ap (λ (l : Log). without_open c.args.statement (open_statements l.statements)) c.self.view_is
+    closed_from armed xs 0 rs c.args.statement r here ∙ ap (λ (n : ℕ). without_open n (open_statements armed (statements_from xs 0 rs))) (omega arith)
+    ∙ ap (λ (l : Log). without_open c.args.statement (open_statements armed l.statements)) c.self.view_is
 
 pub returns-then-place-len-clause-last : goal.returns-then-place-len-clause-last
 returns-then-place-len-clause-last c =
@@ -36,10 +36,10 @@ returns-then-place-len-clause-last c =
     last-shut xs rs c.args.statement r old.last here ∙ ap (λ (l : Log). l.last) c.self.view_is
 
 pub returns-else-place-len-clause-statements : goal.returns-else-place-len-clause-statements
-returns-else-place-len-clause-statements c =
+returns-else-place-len-clause-statements c = λ armed.
     let old = c.self.inside in
     let xs = string_bytes old.buffer in
     let rs = old.records.items in
-    let past = closed_none xs rs c.args.statement (omega arith) in
-    ap (λ (l : Log). open_statements l.statements) (sym c.self.view_is) ∙ past
-    ∙ ap (λ (l : Log). without_open c.args.statement (open_statements l.statements)) c.self.view_is
+    let past = closed_none armed xs rs c.args.statement (omega arith) in
+    ap (λ (l : Log). open_statements armed l.statements) (sym c.self.view_is) ∙ past
+    ∙ ap (λ (l : Log). without_open c.args.statement (open_statements armed l.statements)) c.self.view_is

@@ -115,10 +115,10 @@ returns-clause-last c =
     pushed_last xs ys bs bs cs es rs qs r p old.last c.self.invariant ∙ ap (λ (l : Log). l.last) c.self.view_is
 
 pub returns-clause-fresh : goal.returns-clause-fresh
-returns-clause-fresh c =
+returns-clause-fresh c = λ armed.
     let old = c.self.inside in
     let xs = string_bytes old.buffer in
     let rs = old.records.items in
     let size = sym (length-items xs old.binds.binds old.calls.items 0 rs) ∙ ap (λ (l : Log). length l.items) c.self.view_is in
-    ap (λ (l : Log). find_open (length c.args.self.now.items) (open_statements l.statements)) (sym c.self.view_is)
-    ∙ none_past xs 0 rs (length c.args.self.now.items) (omega (arith, size))
+    ap (λ (l : Log). find_open (length c.args.self.now.items) (open_statements armed l.statements)) (sym c.self.view_is)
+    ∙ none_past armed xs 0 rs (length c.args.self.now.items) (omega (arith, size))

@@ -2,6 +2,7 @@ use Rattle.std.proofs.Common.{◌≡◌, ◌∙◌, ◌++◌, [], ◌∷◌, ℕ
 use Rattle.std.specs.Prelude.{string_bytes, IsSome}
 use Rattle.std.specs.Option.{option_map}
 use Rattle.std.proofs.lemmas.Grind.{common_steps}
+use Rattle.conn_model.specs.Armed.{Armed}
 use Rattle.conn_model.specs.declared.item.Call.TheVariants as call
 use Rattle.conn_model.specs.declared.value.Bind.{Bind}
 use Rattle.conn_server.specs.Logged.{Log, record_items, record_text_at, text_in_records, text_added, open_statements, statements_from, is_accepted, IsLog, IsSourceIn}
@@ -16,54 +17,57 @@ use Rattle.conn_server.proofs.log.ItemLog.push_run.Goals as goal
 
 pub add_source-text-requires-clause-stands : goal.add_source-text-requires-clause-stands
 add_source-text-requires-clause-stands c =
+    let armed : List Armed = [] in
     let old = c.self.inside in
     let xs = string_bytes old.buffer in
     let rs = old.records.items in
     let s = c.args.source in
-    let opened : IsSome (source_text (open_statements (statements_from xs 0 rs)) s) = subst (λ (l : Log). IsSome (source_text (open_statements l.statements) s)) (sym c.self.view_is) c.requires.opened in
-    let text : text_in_records xs c.deref.result.now s ≡ text_of (open_statements c.args.self.now.statements) s =
-    ap (λ (ts : List Record). text_in_records xs ts s) c.deref.ensures.value ∙ source_is xs rs s c.self.invariant.stand opened
-    ∙ ap (λ (l : Log). text_of (open_statements l.statements) s) c.self.view_is in
-    subst (λ (ts : List Record). IsSourceIn xs ts s) (sym c.deref.ensures.value) (source_in xs rs s c.self.invariant.stand opened)
+    let opened : IsSome (source_text (open_statements armed (statements_from xs 0 rs)) s) = subst (λ (l : Log). IsSome (source_text (open_statements armed l.statements) s)) (sym c.self.view_is) (c.requires.opened armed) in
+    let text : text_in_records xs c.deref.result.now s ≡ text_of (open_statements armed c.args.self.now.statements) s =
+    ap (λ (ts : List Record). text_in_records xs ts s) c.deref.ensures.value ∙ source_is armed xs rs s c.self.invariant.stand opened
+    ∙ ap (λ (l : Log). text_of (open_statements armed l.statements) s) c.self.view_is in
+    subst (λ (ts : List Record). IsSourceIn xs ts s) (sym c.deref.ensures.value) (source_in armed xs rs s c.self.invariant.stand opened)
 
 pub add_source-text-requires-clause-room : goal.add_source-text-requires-clause-room
 add_source-text-requires-clause-room c =
+    let armed : List Armed = [] in
     let old = c.self.inside in
     let xs = string_bytes old.buffer in
     let rs = old.records.items in
     let s = c.args.source in
-    let opened : IsSome (source_text (open_statements (statements_from xs 0 rs)) s) = subst (λ (l : Log). IsSome (source_text (open_statements l.statements) s)) (sym c.self.view_is) c.requires.opened in
-    let text : text_in_records xs c.deref.result.now s ≡ text_of (open_statements c.args.self.now.statements) s =
-    ap (λ (ts : List Record). text_in_records xs ts s) c.deref.ensures.value ∙ source_is xs rs s c.self.invariant.stand opened
-    ∙ ap (λ (l : Log). text_of (open_statements l.statements) s) c.self.view_is in
+    let opened : IsSome (source_text (open_statements armed (statements_from xs 0 rs)) s) = subst (λ (l : Log). IsSome (source_text (open_statements armed l.statements) s)) (sym c.self.view_is) (c.requires.opened armed) in
+    let text : text_in_records xs c.deref.result.now s ≡ text_of (open_statements armed c.args.self.now.statements) s =
+    ap (λ (ts : List Record). text_in_records xs ts s) c.deref.ensures.value ∙ source_is armed xs rs s c.self.invariant.stand opened
+    ∙ ap (λ (l : Log). text_of (open_statements armed l.statements) s) c.self.view_is in
     let room = ap (λ (l : Log). l.byte_room) c.self.view_is in
     let size = ap length text in
-    omega (arith, size, room, c.requires.bytes)
+    omega (arith, size, room, c.requires.bytes armed)
 
 pub returns-clause-byte_room : goal.returns-clause-byte_room
-returns-clause-byte_room c =
+returns-clause-byte_room c = λ armed.
     let old = c.self.inside in
     let xs = string_bytes old.buffer in
     let rs = old.records.items in
     let s = c.args.source in
-    let opened : IsSome (source_text (open_statements (statements_from xs 0 rs)) s) = subst (λ (l : Log). IsSome (source_text (open_statements l.statements) s)) (sym c.self.view_is) c.requires.opened in
-    let text : text_in_records xs c.deref.result.now s ≡ text_of (open_statements c.args.self.now.statements) s =
-    ap (λ (ts : List Record). text_in_records xs ts s) c.deref.ensures.value ∙ source_is xs rs s c.self.invariant.stand opened
-    ∙ ap (λ (l : Log). text_of (open_statements l.statements) s) c.self.view_is in
+    let opened : IsSome (source_text (open_statements armed (statements_from xs 0 rs)) s) = subst (λ (l : Log). IsSome (source_text (open_statements armed l.statements) s)) (sym c.self.view_is) (c.requires.opened armed) in
+    let text : text_in_records xs c.deref.result.now s ≡ text_of (open_statements armed c.args.self.now.statements) s =
+    ap (λ (ts : List Record). text_in_records xs ts s) c.deref.ensures.value ∙ source_is armed xs rs s c.self.invariant.stand opened
+    ∙ ap (λ (l : Log). text_of (open_statements armed l.statements) s) c.self.view_is in
     let room = ap (λ (l : Log). l.byte_room) c.self.view_is in
     let size = ap length text in
     omega (arith, size, room, c.add_source-text.ensures.room, c.add.ensures.value_room)
 
 pub invariant_of-self : goal.invariant_of-self
 invariant_of-self c =
+    let armed : List Armed = [] in
     let old = c.self.inside in
     let xs = string_bytes old.buffer in
     let rs = old.records.items in
     let s = c.args.source in
-    let opened : IsSome (source_text (open_statements (statements_from xs 0 rs)) s) = subst (λ (l : Log). IsSome (source_text (open_statements l.statements) s)) (sym c.self.view_is) c.requires.opened in
-    let text : text_in_records xs c.deref.result.now s ≡ text_of (open_statements c.args.self.now.statements) s =
-    ap (λ (ts : List Record). text_in_records xs ts s) c.deref.ensures.value ∙ source_is xs rs s c.self.invariant.stand opened
-    ∙ ap (λ (l : Log). text_of (open_statements l.statements) s) c.self.view_is in
+    let opened : IsSome (source_text (open_statements armed (statements_from xs 0 rs)) s) = subst (λ (l : Log). IsSome (source_text (open_statements armed l.statements) s)) (sym c.self.view_is) (c.requires.opened armed) in
+    let text : text_in_records xs c.deref.result.now s ≡ text_of (open_statements armed c.args.self.now.statements) s =
+    ap (λ (ts : List Record). text_in_records xs ts s) c.deref.ensures.value ∙ source_is armed xs rs s c.self.invariant.stand opened
+    ∙ ap (λ (l : Log). text_of (open_statements armed l.statements) s) c.self.view_is in
     let ys = string_bytes c.add_source-text.new.buffer in
     let bs = old.binds.binds in
     let ds = c.add.new.self.binds in
@@ -88,15 +92,15 @@ invariant_of-self c =
     (pushed_log xs ys bs ds cs es rs qs r p old.last c.self.invariant (if b then Some (length rs) else old.last) (newest_within b (length rs) old.last c.self.invariant.within))
 
 pub returns-clause-items : goal.returns-clause-items
-returns-clause-items c =
+returns-clause-items c = λ armed.
     let old = c.self.inside in
     let xs = string_bytes old.buffer in
     let rs = old.records.items in
     let s = c.args.source in
-    let opened : IsSome (source_text (open_statements (statements_from xs 0 rs)) s) = subst (λ (l : Log). IsSome (source_text (open_statements l.statements) s)) (sym c.self.view_is) c.requires.opened in
-    let text : text_in_records xs c.deref.result.now s ≡ text_of (open_statements c.args.self.now.statements) s =
-    ap (λ (ts : List Record). text_in_records xs ts s) c.deref.ensures.value ∙ source_is xs rs s c.self.invariant.stand opened
-    ∙ ap (λ (l : Log). text_of (open_statements l.statements) s) c.self.view_is in
+    let opened : IsSome (source_text (open_statements armed (statements_from xs 0 rs)) s) = subst (λ (l : Log). IsSome (source_text (open_statements armed l.statements) s)) (sym c.self.view_is) (c.requires.opened armed) in
+    let text : text_in_records xs c.deref.result.now s ≡ text_of (open_statements armed c.args.self.now.statements) s =
+    ap (λ (ts : List Record). text_in_records xs ts s) c.deref.ensures.value ∙ source_is armed xs rs s c.self.invariant.stand opened
+    ∙ ap (λ (l : Log). text_of (open_statements armed l.statements) s) c.self.view_is in
     let ys = string_bytes c.add_source-text.new.buffer in
     let bs = old.binds.binds in
     let ds = c.add.new.self.binds in
@@ -119,18 +123,19 @@ returns-clause-items c =
     let taken : take (length binds) (drop (length bs) ds) ≡ binds = ap (λ (b : List Bind). take (length binds) (drop (length bs) b)) c.add.ensures.binds ∙ rw (drop-append_seam bs binds) (take-length binds) in
     pushed_items xs ys bs ds cs es rs qs r p old.last c.self.invariant (call.Run binds) (call_at-one ds (length rs) (Run (length bs) (length binds)) ∙ ap (λ (b : List Bind). call.Run b) taken)
     ∙ ap (λ (t : List ℕ). record_items xs bs cs 0 rs ++ record { call = call.Run binds; text = t; answer = c.args.answer } ∷ []) (c.add_source-text.ensures.is ∙ text)
-    ∙ ap (λ (l : Log). l.items ++ record { call = call.Run binds; text = text_of (open_statements c.args.self.now.statements) s; answer = c.args.answer } ∷ []) c.self.view_is
+    ∙ ap (λ (l : Log). l.items ++ record { call = call.Run binds; text = text_of (open_statements armed c.args.self.now.statements) s; answer = c.args.answer } ∷ []) c.self.view_is
 
 pub returns-clause-statements : goal.returns-clause-statements
 returns-clause-statements c =
+    let armed : List Armed = [] in
     let old = c.self.inside in
     let xs = string_bytes old.buffer in
     let rs = old.records.items in
     let s = c.args.source in
-    let opened : IsSome (source_text (open_statements (statements_from xs 0 rs)) s) = subst (λ (l : Log). IsSome (source_text (open_statements l.statements) s)) (sym c.self.view_is) c.requires.opened in
-    let text : text_in_records xs c.deref.result.now s ≡ text_of (open_statements c.args.self.now.statements) s =
-    ap (λ (ts : List Record). text_in_records xs ts s) c.deref.ensures.value ∙ source_is xs rs s c.self.invariant.stand opened
-    ∙ ap (λ (l : Log). text_of (open_statements l.statements) s) c.self.view_is in
+    let opened : IsSome (source_text (open_statements armed (statements_from xs 0 rs)) s) = subst (λ (l : Log). IsSome (source_text (open_statements armed l.statements) s)) (sym c.self.view_is) (c.requires.opened armed) in
+    let text : text_in_records xs c.deref.result.now s ≡ text_of (open_statements armed c.args.self.now.statements) s =
+    ap (λ (ts : List Record). text_in_records xs ts s) c.deref.ensures.value ∙ source_is armed xs rs s c.self.invariant.stand opened
+    ∙ ap (λ (l : Log). text_of (open_statements armed l.statements) s) c.self.view_is in
     let ys = string_bytes c.add_source-text.new.buffer in
     let bs = old.binds.binds in
     let ds = c.add.new.self.binds in
@@ -152,15 +157,15 @@ returns-clause-statements c =
     pushed_statements xs ys bs ds cs es rs qs r p old.last c.self.invariant ∙ ap (λ (l : Log). l.statements) c.self.view_is
 
 pub returns-clause-last : goal.returns-clause-last
-returns-clause-last c =
+returns-clause-last c = λ armed.
     let old = c.self.inside in
     let xs = string_bytes old.buffer in
     let rs = old.records.items in
     let s = c.args.source in
-    let opened : IsSome (source_text (open_statements (statements_from xs 0 rs)) s) = subst (λ (l : Log). IsSome (source_text (open_statements l.statements) s)) (sym c.self.view_is) c.requires.opened in
-    let text : text_in_records xs c.deref.result.now s ≡ text_of (open_statements c.args.self.now.statements) s =
-    ap (λ (ts : List Record). text_in_records xs ts s) c.deref.ensures.value ∙ source_is xs rs s c.self.invariant.stand opened
-    ∙ ap (λ (l : Log). text_of (open_statements l.statements) s) c.self.view_is in
+    let opened : IsSome (source_text (open_statements armed (statements_from xs 0 rs)) s) = subst (λ (l : Log). IsSome (source_text (open_statements armed l.statements) s)) (sym c.self.view_is) (c.requires.opened armed) in
+    let text : text_in_records xs c.deref.result.now s ≡ text_of (open_statements armed c.args.self.now.statements) s =
+    ap (λ (ts : List Record). text_in_records xs ts s) c.deref.ensures.value ∙ source_is armed xs rs s c.self.invariant.stand opened
+    ∙ ap (λ (l : Log). text_of (open_statements armed l.statements) s) c.self.view_is in
     let ys = string_bytes c.add_source-text.new.buffer in
     let bs = old.binds.binds in
     let ds = c.add.new.self.binds in
@@ -180,10 +185,15 @@ returns-clause-last c =
       stands = c.add_source-text.ensures.stands;
     } in
     let b = is_accepted c.args.answer in
-    let now = text_of (open_statements c.args.self.now.statements) s in
+    let now = text_of (open_statements armed c.args.self.now.statements) s in
     let newest : c.newest-last.result ≡ (if b then Some (length rs) else old.last) = c.newest-last.ensures ∙ ap (λ (n : ℕ). if b then Some n else old.last) place in
     ap (option_map (record_text_at ys qs)) newest
     ∙ elim b as (λ a. option_map (record_text_at ys qs) (if a then Some (length rs) else old.last) ≡ (if a then Some now else c.args.self.now.last)) [
       | true ↦ ap Some (pushed_text xs ys bs ds cs es rs qs r p old.last c.self.invariant ∙ c.add_source-text.ensures.is ∙ text)
       | false ↦ pushed_last xs ys bs ds cs es rs qs r p old.last c.self.invariant ∙ ap (λ (l : Log). l.last) c.self.view_is
     ]
+
+pub add-requires-clause-bytes : goal.add-requires-clause-bytes
+add-requires-clause-bytes c =
+    let room = ap (λ (l : Log). l.byte_room) c.self.view_is in
+    omega (arith, room, c.requires.bytes [])

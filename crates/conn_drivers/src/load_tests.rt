@@ -1,0 +1,1 @@
+//! Queries and loads are tested by whole sessions, in `session_tests`.
