@@ -9,15 +9,15 @@ use Rattle.conn_model.specs.Armed.{Values}
 use Rattle.conn_model.specs.Rows.{GivenRow, NoRow, none_left}
 use Rattle.conn_model.specs.Seen.{Seen}
 use Rattle.conn_model.specs.declared.item.Refusal.{Refusal}
-use Rattle.conn_manager.specs.Statuses.{Status, retold}
+use Rattle.conn_manager.specs.Statuses.{Status}
 use Rattle.conn_rows.specs.Answers.{row_answer}
 use Rattle.conn_rows.specs.Lists.{Reading, list_answer, rows_read}
 use Rattle.conn_drivers.specs.GatherLaws.{MakesFirst, MakesList}
 use Rattle.conn_drivers.specs.Loaded.{AsksAll, listed}
-use Rattle.conn_drivers.specs.Loading.{EndsReading, HasRead, LacksRow, Looks, LooksFor, Makes, MakesRows, RefusedRow, all_rows, row_error}
+use Rattle.conn_drivers.specs.Loading.{LacksRow, Looks, LooksFor, Makes, MakesRows, RefusedRow, all_rows, row_error}
 use Rattle.conn_drivers.specs.Prepares.{error_by}
 use Rattle.conn_drivers.specs.Reading.{AnswersBy, AreOver, FailsBy, HoldsBy, HoldsRows, ReadsBy, ReadsRows, SkipsBy, SkipsRows}
-use Rattle.conn_drivers.proofs.ReadSteps.{fails_on, read_given, read_none, read_on}
+use Rattle.conn_drivers.proofs.ReadSteps.{fails_on, looks_on, read_given, read_none}
 
 -- no row is left
 pub nothing_left : (s : Seen) → AreOver s → unwrap_or s.rows [] ≡ []
@@ -140,16 +140,6 @@ not_some None e = refl
 not_some (Some x) e = absurd (cc)
 
 module _ {T : Type 0} (reads : Reading T) (old mid new : Seen) (s s0 s1 : Status) where
-  -- these were read, and then these were skipped, up to a refused one
-  looks_on : (front more : List Values) (refusal : Option Refusal) → Looks old mid s s0 front None → Looks mid new s0 s1 more refusal → Looks old new s s1 (front ++ more) refusal
-  looks_on front more refusal first second =
-      let read : HasRead old mid front = subst (λ (x : Seen). HasRead old x front) (sym first.ending.0) first.read in
-      record { mid = second.mid; read = read_on old mid second.mid front more read second.read; ending = by_refusal refusal second.ending }
-    where
-      by_refusal : (o : Option Refusal) → EndsReading o second.mid new s0 s1 → EndsReading o second.mid new s s1
-      by_refusal None ending = (ending.0, ending.1 ∙ first.ending.1)
-      by_refusal (Some r) ending = (ending.0, ending.1 ∙ ap (λ (x : Status). retold second.mid.dialect (Some r) new.told x) first.ending.1)
-
   -- none was left to be skipped
   nothing_more : (more : List Values) → AreOver mid → Looks mid new s0 s1 more None → (more ≡ []) × AreOver new
   nothing_more more over look =
@@ -186,9 +176,9 @@ module _ {T : Type 0} (reads : Reading T) (old mid new : Seen) (s s0 s1 : Status
       by_refusals None None (Ok values) first second gives skips =
           let more = nothing_more skip.front gives.2 second in
           let front : read.front ++ skip.front ≡ read.front = ap (λ (rows : List Values). read.front ++ rows) more.0 ∙ append-nil read.front in
-          record { front = read.front ++ skip.front; refusal = None; looks = looks_on read.front skip.front None first second; gives = (gives.0, ap (rows_read reads) front ∙ gives.1, more.1) }
+          record { front = read.front ++ skip.front; refusal = None; looks = looks_on old mid new s s0 s1 read.front skip.front None first second; gives = (gives.0, ap (rows_read reads) front ∙ gives.1, more.1) }
       by_refusals None None (Err e) first second gives skips =
-          record { front = read.front ++ skip.front; refusal = None; looks = looks_on read.front skip.front None first second; gives = (gives.0, fails_on reads read.front skip.front e gives.1) }
+          record { front = read.front ++ skip.front; refusal = None; looks = looks_on old mid new s s0 s1 read.front skip.front None first second; gives = (gives.0, fails_on reads read.front skip.front e gives.1) }
       by_refusals None (Some r) reply first second gives skips = absurd (cc)
       by_refusals (Some r) p reply first second gives skips = absurd (not_told error r none gives.0)
 
@@ -204,10 +194,10 @@ module _ {T : Type 0} (reads : Reading T) (old mid new : Seen) (s s0 s1 : Status
 
       by_refusals : (o p : Option Refusal) → Looks old mid s s0 read.front o → Looks mid new s0 s1 skip.front p → ReadsBy reads o read.front mid told reply → SkipsBy p (Err e) → ReadsRows reads old new s s1 error (Err e)
       by_refusals None None first second gives skips =
-          record { front = read.front ++ skip.front; refusal = None; looks = looks_on read.front skip.front None first second; gives = (is ∙ ap row_error skips, inl skips) }
+          record { front = read.front ++ skip.front; refusal = None; looks = looks_on old mid new s s0 s1 read.front skip.front None first second; gives = (is ∙ ap row_error skips, inl skips) }
       by_refusals None (Some r) first second gives skips =
           let same = same_error e (error_by r) skips in
-          record { front = read.front ++ skip.front; refusal = Some r; looks = looks_on read.front skip.front (Some r) first second; gives = (is ∙ ap row_error same, ap (λ (x : Error). let y : Result (List T) Error = Err x in y) same) }
+          record { front = read.front ++ skip.front; refusal = Some r; looks = looks_on old mid new s s0 s1 read.front skip.front (Some r) first second; gives = (is ∙ ap row_error same, ap (λ (x : Error). let y : Result (List T) Error = Err x in y) same) }
       by_refusals (Some r) p first second gives skips = absurd (not_told told r none gives.0)
 
 -- ---- one row alone

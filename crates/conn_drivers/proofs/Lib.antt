@@ -10,3 +10,5 @@ mod LoadSteps
 mod ReadSteps
 mod GatherSteps
 mod LoadEnds
+mod CursorSteps
+mod CursorLaws

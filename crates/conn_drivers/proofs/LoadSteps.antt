@@ -22,8 +22,8 @@ use Rattle.conn_cache.specs.QueryViews.{QueryView}
 use Rattle.conn_cache.specs.declared.statement_cache.MaybeCached.{MaybeCached}
 use Rattle.conn_manager.specs.Manages.{HasServerCause, IsRefusal}
 use Rattle.conn_manager.specs.Statuses.{Status}
-use Rattle.conn_drivers.specs.Loading.{AnswersFor, AsksBy, HasRows, LeavesRows, LoadsOn, Looks, LooksFor, Makes, RunsRows, Starts, after_start, all_rows, ends, shut_by}
-use Rattle.conn_drivers.specs.Queried.{Goes, LeavesOf, Readies, RunsOut, after_run, columns_by, known_of, looked_up}
+use Rattle.conn_drivers.specs.Loading.{AnswersFor, AsksBy, HasRows, LeavesRows, LoadsOn, Looks, LooksFor, Makes, RunsRows, Starts, after_start, all_rows, seen_shut, shut_by}
+use Rattle.conn_drivers.specs.Queried.{Goes, LeavesOf, Readies, RunsOut, after_run, statement_columns, known_of, looked_up}
 use Rattle.conn_drivers.specs.Standing.{AreHeld}
 use Rattle.conn_drivers.specs.declared.statement.Statement.{Statement}
 use Rattle.conn_drivers.proofs.Going.{goes_closed, goes_further}
@@ -66,7 +66,7 @@ kept_columns (u ∷ us) (suc n) t e = kept_columns us n t e
 
 module _ {W I : Type 0} (honest : Bool) (q : QueryView) (seen : W → Seen) (status : W → Status) (told : I → Heeded) (w mid : W) (c c' : Cache Statement) (i i' : I) where
   -- it was ready, and then it was run
-  pub starts : {T : Type 0} (found : Result (MaybeCached Statement) Error) (m : MaybeCached Statement) (columns : ℕ) (w' : W) (result : Result T Error) → found ≡ Ok m → columns_by (known_of c') (Ok m) ≡ Ok columns → Readies honest q seen status told w mid c c' i i' found
+  pub starts : {T : Type 0} (found : Result (MaybeCached Statement) Error) (m : MaybeCached Statement) (columns : ℕ) (w' : W) (result : Result T Error) → found ≡ Ok m → statement_columns (known_of c') (Ok m) ≡ Ok columns → Readies honest q seen status told w mid c c' i i' found
       → (seen mid).dialect ≡ (seen w).dialect → RunsRows honest q columns (seen mid) (seen w') (status mid) (status w') result → Starts honest q seen status told w w' c c' i i' result
   starts found m columns w' result is has ready same ran = inr (λ gather.
       ready_goes honest q seen status told w mid c c' i i' found m columns true (looks gather (seen w).dialect q) w' (after_start gather (seen w).dialect q result (status w') (known_of c')) is has ready (ran gather (seen w).dialect (sym same) (known_of c') (told i')))
@@ -85,7 +85,7 @@ module _ {W I : Type 0} (honest : Bool) (q : QueryView) (seen : W → Seen) (sta
       (inr (λ gather. subst (λ (r : Result (MaybeCached Statement) Error). LeavesOf honest q seen status told w mid c c' i i' true (looks gather (seen w).dialect q) (by_found gather r)) is (g true (looks gather (seen w).dialect q))))
     where
       by_found : Gathering → Result (MaybeCached Statement) Error → Process (Asked (List Values))
-      by_found gather r = looked_up q (looks gather (seen w).dialect q) true (seen w).dialect (columns_by (known_of c') r) (status mid) (known_of c')
+      by_found gather r = looked_up q (looks gather (seen w).dialect q) true (seen w).dialect (statement_columns (known_of c') r) (status mid) (known_of c')
 
   -- ---- the whole load
 
@@ -107,11 +107,11 @@ module _ {W I : Type 0} (honest : Bool) (q : QueryView) (seen : W → Seen) (sta
 
     -- its rows were asked, and its statement was closed
     pub loads_on : {U : Type 0} (started : Result U Error) (u : U) (statement : Option ℕ) (last w' : W) → started ≡ Ok u → Starts honest q seen status told w mid c c' i i' started → (seen mid).dialect ≡ (seen w).dialect → HasRows honest q.sql (seen mid) → (honest ≡ true → IsHonest (seen last))
-        → Makes (LooksFor (seen mid) (seen last) (status mid) (status last)) makes error reply → seen w' ≡ ends statement (seen last) → status w' ≡ status last → LoadsOn honest q seen status told w w' c c' i i' makes error reply
+        → Makes (LooksFor (seen mid) (seen last) (status mid) (status last)) makes error reply → seen w' ≡ seen_shut statement (seen last) → status w' ≡ status last → LoadsOn honest q seen status told w w' c c' i i' makes error reply
     loads_on started u statement last w' is (inl want) same there honesty made ended follows = absurd (not_ok started u is want.is)
     loads_on {U} started u statement last w' is (inr g) same there honesty made ended follows = inr (makes_on (LooksFor (seen mid) (seen last) (status mid) (status last)) (LeavesRows honest q seen status told w w' c c' i i' makes error reply) makes error reply (λ gather rows heeds look. leaves gather rows look) made)
       where
-        goes_ended : (o : Option ℕ) (shut : Seen) (p r : Process (Asked (List Values))) → shut ≡ ends o (seen last) → Goes honest p r (seen w) (seen last) (told i) (told i') → Goes honest p r (seen w) shut (told i) (told i')
+        goes_ended : (o : Option ℕ) (shut : Seen) (p r : Process (Asked (List Values))) → shut ≡ seen_shut o (seen last) → Goes honest p r (seen w) (seen last) (told i) (told i') → Goes honest p r (seen w) shut (told i) (told i')
         goes_ended None shut p r is went = subst (λ (x : Seen). Goes honest p r (seen w) x (told i) (told i')) (sym is) went
         goes_ended (Some n) shut p r is went = goes_closed honest p r n (seen w) (seen last) shut (told i) (told i') is went
 
@@ -130,8 +130,8 @@ module _ {W I : Type 0} (honest : Bool) (q : QueryView) (seen : W → Seen) (sta
 
 -- ---- what else is said of it
 
-module _ {T : Type 0} (makes : List Values → Result T Error → Type 0) (error : Option Error) (reply : Result T Error) (old mid last new : Seen) (s s1 : Status) (statement : Option ℕ) (made : Makes (LooksFor mid last s s1) makes error reply) (ended : new ≡ ends statement last) where
-  ended_failures : (o : Option ℕ) → (ends o last).failures ≡ last.failures
+module _ {T : Type 0} (makes : List Values → Result T Error → Type 0) (error : Option Error) (reply : Result T Error) (old mid last new : Seen) (s s1 : Status) (statement : Option ℕ) (made : Makes (LooksFor mid last s s1) makes error reply) (ended : new ≡ seen_shut statement last) where
+  ended_failures : (o : Option ℕ) → (seen_shut o last).failures ≡ last.failures
   ended_failures None = refl
   ended_failures (Some n) = refl
 
@@ -175,7 +175,7 @@ module _ {T : Type 0} (makes : List Values → Result T Error → Type 0) (error
       open_by (inl lost) = looks_open mid last s s1 lost.leaves.front lost.leaves.refusal lost.leaves.looks
       open_by (inr rows) = looks_open mid last s s1 rows.leaves.front rows.leaves.refusal rows.leaves.looks
 
-      by_statement : (o : Option ℕ) → (ends o last).open_statements ≡ shut_by mid.open_statements (Ok o)
+      by_statement : (o : Option ℕ) → (seen_shut o last).open_statements ≡ shut_by mid.open_statements (Ok o)
       by_statement None = open_by made
       by_statement (Some n) = ap (without_open n) (open_by made)
 
@@ -183,7 +183,7 @@ module _ {T : Type 0} (makes : List Values → Result T Error → Type 0) (error
   pub load_asks : (all : Bool) → mid.given ≡ 0 → AsksBy all mid last reply → AsksBy all old new reply
   load_asks true given asks = by_reply reply asks
     where
-      ended_left : (o : Option ℕ) → (ends o last).rows_left ≡ last.rows_left
+      ended_left : (o : Option ℕ) → (seen_shut o last).rows_left ≡ last.rows_left
       ended_left None = refl
       ended_left (Some n) = refl
 
@@ -195,7 +195,7 @@ module _ {T : Type 0} (makes : List Values → Result T Error → Type 0) (error
       let one : last.given ≤ 1 = subst (λ (n : ℕ). last.given ≤ max n 1) given asks in
       subst (λ (n : ℕ). n ≤ max old.given 1) (sym same) (below one)
     where
-      ended_given : (o : Option ℕ) → (ends o last).given ≡ last.given
+      ended_given : (o : Option ℕ) → (seen_shut o last).given ≡ last.given
       ended_given None = refl
       ended_given (Some n) = refl
 

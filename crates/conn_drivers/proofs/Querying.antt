@@ -29,7 +29,7 @@ use Rattle.conn_model.specs.declared.reply.RunSource.TheVariants.{Prepared}
 use Rattle.conn_model.proofs.Mapped.{tells_map}
 use Rattle.conn_model.proofs.Telling.{stops_telling, tells_first, with_both}
 use Rattle.conn_drivers.specs.Prepares.{WireCloses, count_heard, count_in}
-use Rattle.conn_drivers.specs.Queried.{Answer, CanRun, DoesNothing, Following, Goes, IsIdle, LeavesOf, OpensPlain, Queries, QueriesBetween, QueriesFrom, Readies, RunsOut, SetsCacheSize, after_run, columns_by, counted_by, idle_events, known_of, looked_up, shut_in}
+use Rattle.conn_drivers.specs.Queried.{Answer, CanRun, DoesNothing, Following, Goes, IsIdle, LeavesOf, OpensPlain, Queries, QueriesBetween, QueriesFrom, Readies, RunsOut, SetsCacheSize, after_run, statement_columns, counted_by, idle_events, known_of, looked_up, shut_in}
 use Rattle.conn_drivers.specs.Standing.{stands_in}
 use Rattle.conn_drivers.specs.Wires.{HearsBy}
 use Rattle.conn_cache.specs.declared.statement_cache.MaybeCached.{MaybeCached}
@@ -98,13 +98,13 @@ same_error r e f g = cc
 
 module _ {W I : Type 0} (honest : Bool) (q : QueryView) (seen : W → Seen) (status : W → Status) (told : I → Heeded) (w mid : W) (c c' : Cache Statement) (i i' : I) where
   -- it was ready, and then it went on
-  pub ready_goes : (looked : Result (MaybeCached Statement) Error) (m : MaybeCached Statement) (columns : ℕ) (loads : Bool) (following : Following (Answer loads)) (w' : W) (rest : Process (Asked (Answer loads))) → looked ≡ Ok m → columns_by (known_of c') (Ok m) ≡ Ok columns
+  pub ready_goes : (looked : Result (MaybeCached Statement) Error) (m : MaybeCached Statement) (columns : ℕ) (loads : Bool) (following : Following (Answer loads)) (w' : W) (rest : Process (Asked (Answer loads))) → looked ≡ Ok m → statement_columns (known_of c') (Ok m) ≡ Ok columns
       → Readies honest q seen status told w mid c c' i i' looked → Goes honest (runs_with loads (seen w).dialect q following columns (status mid) (known_of c')) rest (seen mid) (seen w') (told i') (told i') → LeavesOf honest q seen status told w w' c c' i i' loads following rest
   ready_goes looked m columns loads following w' rest is found (inl want) ran = absurd (not_both looked m is want.is)
   ready_goes looked m columns loads following w' rest is found (inr g) ran =
       let whole = runs_due loads (seen w).dialect q following (due q (types_for (seen w).dialect q) c.register) (status w) (known_of c) in
       let left = runs_with loads (seen w).dialect q following columns (status mid) (known_of c') in
-      let ready = subst (λ (r : Result ℕ Error). Goes honest whole (looked_up q following loads (seen w).dialect r (status mid) (known_of c')) (seen w) (seen mid) (told i) (told i')) (ap (columns_by (known_of c')) is ∙ found) (g loads following) in
+      let ready = subst (λ (r : Result ℕ Error). Goes honest whole (looked_up q following loads (seen w).dialect r (status mid) (known_of c')) (seen w) (seen mid) (told i) (told i')) (ap (statement_columns (known_of c')) is ∙ found) (g loads following) in
       goes_further honest whole left rest (seen w) (seen mid) (seen w') (told i) (told i') (told i') ready ran
 
   -- it was over with its look-up
@@ -112,7 +112,7 @@ module _ {W I : Type 0} (honest : Bool) (q : QueryView) (seen : W → Seen) (sta
       → (let over : Result T Error = Err e in DoesNothing w mid c c' i i' over) ⊎ LeavesOf honest q seen status told w mid c c' i i' loads following (finishes q.sql (Err e) (status mid) (known_of c'))
   ready_ends looked e loads following {T} is (inl want) = inl (record { is = ap (λ (x : Error). let r : Result T Error = Err x in r) (same_error looked e is want.is); wire = want.wire; cache = want.cache; handler = want.handler })
   ready_ends looked e loads following {T} is (inr g) =
-      inr (subst (λ (r : Result (MaybeCached Statement) Error). LeavesOf honest q seen status told w mid c c' i i' loads following (looked_up q following loads (seen w).dialect (columns_by (known_of c') r) (status mid) (known_of c'))) is (g loads following))
+      inr (subst (λ (r : Result (MaybeCached Statement) Error). LeavesOf honest q seen status told w mid c c' i i' loads following (looked_up q following loads (seen w).dialect (statement_columns (known_of c') r) (status mid) (known_of c'))) is (g loads following))
 
   -- after the run its affected rows are counted
   counts : (affected : Result ℕ Error) (s : Status) (k : Known) → after_run q (counted q) affected s k ≡ finishes q.sql (counted_by affected) s k
@@ -120,7 +120,7 @@ module _ {W I : Type 0} (honest : Bool) (q : QueryView) (seen : W → Seen) (sta
   counts (Err e) s k = refl
 
   -- it was executed once it was ready
-  pub ready_runs : (looked : Result (MaybeCached Statement) Error) (m : MaybeCached Statement) (columns : ℕ) (w' : W) (affected result : Result ℕ Error) → looked ≡ Ok m → columns_by (known_of c') (Ok m) ≡ Ok columns → Readies honest q seen status told w mid c c' i i' looked → (seen mid).dialect ≡ (seen w).dialect
+  pub ready_runs : (looked : Result (MaybeCached Statement) Error) (m : MaybeCached Statement) (columns : ℕ) (w' : W) (affected result : Result ℕ Error) → looked ≡ Ok m → statement_columns (known_of c') (Ok m) ≡ Ok columns → Readies honest q seen status told w mid c c' i i' looked → (seen mid).dialect ≡ (seen w).dialect
       → RunsOut honest q (seen mid) (seen w') (status mid) (status w') affected → result ≡ counted_by affected → Queries honest q seen status told w w' c c' i i' result
   ready_runs looked m columns w' affected result is found ready same ran counted_is =
       let went = ran false (counted q) (seen w).dialect (sym same) (known_of c') (told i') in

@@ -1,5 +1,5 @@
 -- Rows that were given one after the other, and what is made of them.
-use Rattle.std.proofs.Common.{◌≡◌, inl, inr, ℕ, ◌+◌, arith, List, [], ◌∷◌, ◌++◌, length, refl, ap, sym, ◌∙◌, Option, Some, None, Result, Ok, Err, append_assoc}
+use Rattle.std.proofs.Common.{◌≡◌, inl, inr, ℕ, ◌+◌, arith, List, [], ◌∷◌, ◌++◌, length, refl, ap, sym, ◌∙◌, Option, Some, None, Result, Ok, Err, append_assoc, subst}
 use Rattle.std.specs.Prelude.{◌⊎◌}
 use Rattle.std.specs.Option.{option_map}
 use Rattle.std.proofs.lemmas.Grind.{common_steps}
@@ -9,10 +9,11 @@ use Rattle.conn_result.specs.declared.error.RowFault.{RowFault}
 use Rattle.conn_model.specs.Armed.{Values}
 use Rattle.conn_model.specs.Rows.{GivenRow, NoRow, none_left}
 use Rattle.conn_model.specs.Seen.{Seen}
+use Rattle.conn_model.specs.declared.item.Refusal.{Refusal}
 use Rattle.conn_manager.specs.Statuses.{Status, retold}
 use Rattle.conn_rows.specs.Answers.{◌>>=◌, row_answer}
 use Rattle.conn_rows.specs.Lists.{Reading, list_answer, rows_read}
-use Rattle.conn_drivers.specs.Loading.{HasRead, LacksRow, Looks, RefusedRow, row_error}
+use Rattle.conn_drivers.specs.Loading.{EndsReading, HasRead, LacksRow, Looks, RefusedRow, row_error}
 use Rattle.conn_drivers.specs.Reading.{AnswersBy, AreOver, FailsBy, HoldsRows, PutsBehind, ReadsRows, SkipsRows}
 
 -- ---- rows that were given
@@ -60,30 +61,40 @@ read_on old mid new front more f g =
 pub read_more : (old mid new : Seen) (front : List Values) (row : Values) → HasRead old mid front → GivenRow mid new row → HasRead old new (front ++ row ∷ [])
 read_more old mid new front row f g = read_on old mid new front (row ∷ []) f (read_given mid new row g)
 
-looks_given : (old new : Seen) (s s1 : Status) (front : List Values) → HasRead old new front → s1 ≡ s → Looks old new s s1 front None
+pub looks_given : (old new : Seen) (s s1 : Status) (front : List Values) → HasRead old new front → s1 ≡ s → Looks old new s s1 front None
 looks_given old new s s1 front read follows = record { mid = new; read = read; ending = (refl, follows) }
 
 -- no row was left after them
-looks_over : (old mid new : Seen) (s s0 s1 : Status) (front : List Values) → HasRead old mid front → s0 ≡ s → NoRow mid new → s1 ≡ s0 → Looks old new s s1 front None
+pub looks_over : (old mid new : Seen) (s s0 s1 : Status) (front : List Values) → HasRead old mid front → s0 ≡ s → NoRow mid new → s1 ≡ s0 → Looks old new s s1 front None
 looks_over old mid new s s0 s1 front read follows none still = record { mid = mid; read = read; ending = (none.keeps, still ∙ follows) }
 
-are_over : (mid new : Seen) → NoRow mid new → AreOver new
+pub are_over : (mid new : Seen) → NoRow mid new → AreOver new
 are_over mid new none = record {
   left = ap (λ (x : Seen). x.rows_left) none.keeps ∙ none.left;
   rows = ap (λ (x : Seen). x.rows) none.keeps ∙ none.rows ∙ ap (λ (x : Seen). none_left x.rows) (sym none.keeps);
 }
 
 -- memory was wanting after them
-looks_lacking : (old mid new : Seen) (s s0 s1 : Status) (front : List Values) (e : Error) → HasRead old mid front → s0 ≡ s → LacksRow mid new s0 s1 e → Looks old new s s1 front None
+pub looks_lacking : (old mid new : Seen) (s s0 s1 : Status) (front : List Values) (e : Error) → HasRead old mid front → s0 ≡ s → LacksRow mid new s0 s1 e → Looks old new s s1 front None
 looks_lacking old mid new s s0 s1 front e read follows lacks = record { mid = mid; read = read; ending = (lacks.seen, lacks.status ∙ follows) }
 
 -- a row was refused after them
-looks_refused : (old mid new : Seen) (s s0 s1 : Status) (front : List Values) (e : Error) → HasRead old mid front → s0 ≡ s → (refused : RefusedRow mid new s0 s1 e) → Looks old new s s1 front (Some refused.refusal)
+pub looks_refused : (old mid new : Seen) (s s0 s1 : Status) (front : List Values) (e : Error) → HasRead old mid front → s0 ≡ s → (refused : RefusedRow mid new s0 s1 e) → Looks old new s s1 front (Some refused.refusal)
 looks_refused old mid new s s0 s1 front e read follows refused = record {
   mid = mid;
   read = read;
   ending = (refused.refuses, refused.follows ∙ ap (λ (x : Status). retold mid.dialect (Some refused.refusal) new.told x) follows);
 }
+
+-- these were given, and then these, up to a refused one
+pub looks_on : (old mid new : Seen) (s s0 s1 : Status) (front more : List Values) (refusal : Option Refusal) → Looks old mid s s0 front None → Looks mid new s0 s1 more refusal → Looks old new s s1 (front ++ more) refusal
+looks_on old mid new s s0 s1 front more refusal first second =
+    let read : HasRead old mid front = subst (λ (x : Seen). HasRead old x front) (sym first.ending.0) first.read in
+    record { mid = second.mid; read = read_on old mid second.mid front more read second.read; ending = by_refusal refusal second.ending }
+  where
+    by_refusal : (o : Option Refusal) → EndsReading o second.mid new s0 s1 → EndsReading o second.mid new s s1
+    by_refusal None ending = (ending.0, ending.1 ∙ first.ending.1)
+    by_refusal (Some r) ending = (ending.0, ending.1 ∙ ap (λ (x : Status). retold second.mid.dialect (Some r) new.told x) first.ending.1)
 
 -- ---- held rows
 

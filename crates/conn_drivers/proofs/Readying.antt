@@ -31,7 +31,7 @@ use Rattle.conn_model.specs.declared.item.Refusal.{Refusal}
 use Rattle.conn_model.specs.declared.reply.Prepared.{Prepared}
 use Rattle.conn_model.specs.declared.value.BindType.{BindType}
 use Rattle.conn_drivers.specs.Prepares.{SendsNone, SendsPrepare, WirePrepares, WirePreparesBy, name_of, sends_none, statement_by}
-use Rattle.conn_drivers.specs.Queried.{Following, Goes, KeepsNone, OpensPlain, Readies, Spends, columns_by, known_of, looked_up}
+use Rattle.conn_drivers.specs.Queried.{Following, Goes, KeepsNone, OpensPlain, Readies, Spends, statement_columns, known_of, looked_up}
 use Rattle.conn_drivers.specs.Wires.{OpensStatement}
 use Rattle.conn_drivers.specs.declared.statement.Statement.{Statement}
 use Rattle.conn_drivers.proofs.Going.{goes_further, goes_heard, goes_nowhere, goes_told}
@@ -133,7 +133,7 @@ module _ {W I : Type 0} (honest : Bool) (q : QueryView) (seen : W → Seen) (sta
 
     -- the query stands so where this was due
     abbrev StandsBy : Dialect → Due → Result (MaybeCached Statement) Error → Type 0
-    StandsBy d x result = Goes honest (due_process d x) (left_with d (columns_by (known_of c') result)) (seen w) (seen w') (told i) (told i')
+    StandsBy d x result = Goes honest (due_process d x) (left_with d (statement_columns (known_of c') result)) (seen w) (seen w') (told i) (told i')
 
     stands_still : (d : Dialect) (p : Process (Asked A)) (found : Cache Statement → Result ℕ Error) → seen w' ≡ seen w → status w' ≡ status w → c' ≡ c → i' ≡ i → p ≡ looked_up q following loads d (found c) (status w) (known_of c)
         → Goes honest p (left_with d (found c')) (seen w) (seen w') (told i) (told i')
@@ -157,7 +157,7 @@ module _ {W I : Type 0} (honest : Bool) (q : QueryView) (seen : W → Seen) (sta
         known (Ok t) = ap known_of (sym cache)
         known (Err e) = λ r. ap known_of (sym cache)
 
-        columns : (a : Result Statement Error) → columns_in a ≡ columns_by (known_of c') (plain_answer a)
+        columns : (a : Result Statement Error) → columns_in a ≡ statement_columns (known_of c') (plain_answer a)
         columns (Ok t) = refl
         columns (Err e) = refl
 
@@ -189,7 +189,7 @@ module _ {W I : Type 0} (honest : Bool) (q : QueryView) (seen : W → Seen) (sta
         known (Ok t) register statements = known_new q (types_for d q) c c' t register statements
         known (Err e) register statements = λ r. known_refused q (types_for d q) c c' r 0 register statements
 
-        columns : (a : Result Statement Error) → c'.statements ≡ statements_after a c.statements → columns_in a ≡ columns_by (known_of c') (new_answer (length c.statements) a)
+        columns : (a : Result Statement Error) → c'.statements ≡ statements_after a c.statements → columns_in a ≡ statement_columns (known_of c') (new_answer (length c.statements) a)
         columns (Ok t) statements = ap (λ (n : ℕ). let r : Result ℕ Error = Ok n in r) (sym (newest_columns t c.statements c'.statements statements))
         columns (Err e) statements = refl
 

@@ -23,6 +23,10 @@ asks_all_first Sqlite = false
 abbrev pub MakesList : {T : Type 0} → Reading T → List Values → Result (Vec T) Error → Type 0
 MakesList reads rows reply = listed reply ≡ list_answer reads rows
 
+-- the rows themselves
+abbrev pub MakesHeld : List Values → Result (Vec Values) Error → Type 0
+MakesHeld rows reply = listed reply ≡ Ok rows
+
 -- the first of them
 abbrev pub MakesFirst : {T : Type 0} → Reading T → List Values → Result T Error → Type 0
 MakesFirst reads rows reply = reply ≡ first_answer reads rows
@@ -43,3 +47,7 @@ list_law reads rows reply is h = read_refusal (rows_read reads rows) reply (with
 pub first_law : {T : Type 0} (reads : Reading T) (rows : List Values) (reply : Result T Error) → MakesFirst reads rows reply → IsRefusal (without_value reply) → ⊥
 first_law reads [] reply is h = subst (λ (r : Result _ Error). IsRefusal (without_value r)) is h
 first_law reads (row ∷ rows) reply is h = read_refusal (reads row) reply (ap without_value is) h
+
+-- the rows themselves
+pub held_law : (rows : List Values) (reply : Result (Vec Values) Error) → MakesHeld rows reply → IsRefusal (without_value reply) → ⊥
+held_law rows reply is h = subst IsRefusal (without_list reply ∙ ap without_value is) h

@@ -10,3 +10,5 @@ pub mod Loading
 pub mod Loadings
 pub mod GatherLaws
 pub mod Reading
+pub mod Held
+pub mod Cursors

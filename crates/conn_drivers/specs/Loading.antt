@@ -49,9 +49,9 @@ shut_by os (Ok None) = os
 shut_by os (Err e) = os
 
 -- what is seen of a server then
-abbrev pub ends : Option ℕ → Seen → Seen
-ends (Some n) s = closes n s
-ends None s = s
+abbrev pub seen_shut : Option ℕ → Seen → Seen
+seen_shut (Some n) s = closes n s
+seen_shut None s = s
 
 -- a query on a wire was run, and its rows are asked next
 abbrev pub Starts : {W I T : Type 0} → Bool → QueryView → (W → Seen) → (W → Status) → (I → Heeded) → W → W → Cache Statement → Cache Statement → I → I → Result T Error → Type 0

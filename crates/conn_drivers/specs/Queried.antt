@@ -43,10 +43,10 @@ abbrev pub Following : Type 0 → Type 0
 Following A = ℕ → Status → Known → Process (Asked A)
 
 -- how many columns the statement of a look-up has
-abbrev pub columns_by : Known → Result (MaybeCached Statement) Error → Result ℕ Error
-columns_by c (Ok (Cached place)) = Ok (columns_at place c)
-columns_by c (Ok (CannotCache t)) = Ok t.columns
-columns_by c (Err e) = Err e
+abbrev pub statement_columns : Known → Result (MaybeCached Statement) Error → Result ℕ Error
+statement_columns c (Ok (Cached place)) = Ok (columns_at place c)
+statement_columns c (Ok (CannotCache t)) = Ok t.columns
+statement_columns c (Err e) = Err e
 
 module _ {A : Type 0} (q : QueryView) (after : Following A) where
   -- what is left of a query after its run: what follows it, or the end with its error
@@ -75,7 +75,7 @@ module _ {W I : Type 0} (honest : Bool) (q : QueryView) (seen : W → Seen) (sta
   -- it is looked up, whatever follows its run
   abbrev pub Readies : Result (MaybeCached Statement) Error → Type 0
   Readies result =
-      DoesNothing w w' c c' i i' result ⊎ ((loads : Bool) (after : Following (Answer loads)) → LeavesOf loads after (looked_up q after loads (seen w).dialect (columns_by (known_of c') result) (status w') (known_of c')))
+      DoesNothing w w' c c' i i' result ⊎ ((loads : Bool) (after : Following (Answer loads)) → LeavesOf loads after (looked_up q after loads (seen w).dialect (statement_columns (known_of c') result) (status w') (known_of c')))
 
   -- it is answered
   abbrev pub Queries : Result ℕ Error → Type 0

@@ -77,7 +77,7 @@ beside : (n u : ℕ) (o : Opened) (os : List Opened) (b : Bool) → nat_eq o.sta
 beside n u o os true is other rest = let apart : nat_eq o.statement u ≡ false = grind (arith, nat_tests) in rw (is, apart) rest
 beside n u o os false is other rest = rw is (ap (λ (r : Option Opened). if nat_eq o.statement u then Some o else r) rest)
 
-found_beside : (n u : ℕ) (os : List Opened) → nat_eq n u ≡ false → find_open u (without_open n os) ≡ find_open u os
+pub found_beside : (n u : ℕ) (os : List Opened) → nat_eq n u ≡ false → find_open u (without_open n os) ≡ find_open u os
 found_beside n u [] other = refl
 found_beside n u (o ∷ os) other = beside n u o os (nat_eq o.statement n) refl other (found_beside n u os other)
 

@@ -5,14 +5,14 @@ ghost use Rattle.conn_cache.specs.QueryProcesses.{without_value};
 ghost use Rattle.conn_manager.specs.Manages.{IsRefusal};
 ghost use Rattle.conn_model.specs.Armed.{Values};
 ghost use Rattle.conn_model.specs.declared.item.Dialect.{Dialect as dialect};
-ghost use Rattle.conn_drivers.specs.GatherLaws.{MakesFirst, MakesList, asks_all_first, first_law, list_law};
+ghost use Rattle.conn_drivers.specs.GatherLaws.{MakesFirst, MakesHeld, MakesList, asks_all_first, first_law, held_law, list_law};
 ghost use Rattle.conn_drivers.specs.Loaded.{AsksAll, listed};
 ghost use Rattle.conn_drivers.specs.Loading.{AsksBy, LooksFor, Makes};
 ghost use Rattle.conn_drivers.specs.Reading.{ReadsRows};
 
 use crate::Wire;
 use crate::rows::{RowsReply, read_all, read_first, row_error};
-use conn_model::Dialect;
+use conn_model::{Dialect, Row};
 use conn_result::{Error, QueryResult};
 use conn_rows::RowReader;
 use conn_server::Server;
@@ -48,6 +48,10 @@ pub(crate) struct ListOf<'r, R> {
     pub reader: &'r R,
     pub row_by_row: bool,
 }
+
+/// All rows as they are, held at once.
+#[derive(Drop)]
+pub(crate) struct RowsHeld;
 
 /// The first row alone.
 #[derive(Drop)]
@@ -173,6 +177,26 @@ impl<R: RowReader> Gather for FirstOf<'_, R> {
         match wire.server.dialect() {
             Dialect::Pg => first_at_once(wire, alloc, self.reader),
             Dialect::Mysql | Dialect::Sqlite => first_alone(wire, alloc, self.reader),
+        }
+    }
+}
+
+impl Gather for RowsHeld {
+    type Value = Vec<Row>;
+
+    ghost makes = { λ g. MakesHeld };
+
+    ghost asks_all = { λ g d. true };
+
+    ghost law = { λ g. held_law };
+
+    fn gather<S: Server>(&self, wire: &mut Wire<S>, alloc: Global) -> RowsReply<Vec<Row>> {
+        match wire.hold_rows(alloc) {
+            Ok(rows) => RowsReply {
+                error: None,
+                reply: Ok(rows),
+            },
+            Err(e) => RowsReply::refused(e),
         }
     }
 }

@@ -27,6 +27,9 @@ pub struct Mysql;
 #[derive(Drop)]
 pub struct Sqlite;
 
+/// A kind of server whose rows are asked by a statement, one at a time.
+pub trait StatementKind: Kind {}
+
 impl Kind for Pg {
     ghost dialect = { dialects.Pg };
 
@@ -50,3 +53,7 @@ impl Kind for Sqlite {
         Dialect::Sqlite
     }
 }
+
+impl StatementKind for Mysql {}
+
+impl StatementKind for Sqlite {}

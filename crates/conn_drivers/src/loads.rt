@@ -3,7 +3,7 @@ ghost use Rattle.std.specs.Prelude.{◌≡◌, ◌≤◌, ◌+◌, length, Some}
 ghost use Rattle.conn_cache.specs.QueryProcesses.{lacks_metadata, without_value};
 ghost use Rattle.conn_manager.specs.Manages.{HasServerCause};
 ghost use Rattle.conn_model.specs.Statements.{run_bytes, source_text};
-ghost use Rattle.conn_drivers.specs.Loading.{AsksBy, BeginsIf, LoadsOn, RunsRows, Starts, ends, shut_by};
+ghost use Rattle.conn_drivers.specs.Loading.{AsksBy, BeginsIf, LoadsOn, RunsRows, Starts, seen_shut, shut_by};
 ghost use Rattle.conn_drivers.specs.Queried.{CanRun, shut_in};
 ghost use Rattle.conn_drivers.specs.Standing.{AreHeld, HasRoom};
 ghost use Rattle.std.specs.Prelude.{true};
@@ -102,7 +102,7 @@ impl<S: Server> Wire<S> {
     }
 
     /// Looks a query up and runs it, and answers which statement is to be closed after its rows, where it isn't kept.
-    fn start<Q: Query, I: Instrumentation>(
+    pub(crate) fn start<Q: Query, I: Instrumentation>(
         &mut self,
         cache: &mut StatementCache<Statement>,
         source: &Q,
@@ -138,8 +138,8 @@ impl<S: Server> Wire<S> {
     }
 
     /// Closes the statement of a load that isn't kept.
-    fn end(&mut self, statement: Option<u64>)
-        ensures seen { S.seen self.new.server ≡ ends statement (S.seen self.old.server) }
+    pub(crate) fn end(&mut self, statement: Option<u64>)
+        ensures seen { S.seen self.new.server ≡ seen_shut statement (S.seen self.old.server) }
         ensures status { self.new.status ≡ self.old.status }
     {
         if let Some(statement) = statement {

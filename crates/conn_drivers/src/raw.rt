@@ -17,7 +17,7 @@ use conn_manager::{
     Connection, Instrumentation, InstrumentationEvent, SimpleConnection, StrQueryHelper,
     TransactionManagerStatus,
 };
-use conn_model::Dialect;
+use conn_model::{Dialect, Notification};
 use conn_result::{ConnectionResult, Error, QueryResult};
 use conn_rows::RowReader;
 use conn_server::{Connector, Server};
@@ -37,6 +37,7 @@ impl<S: Server, H: Instrumentation + Drop> RawConnection<S, H> {
     ghost use Rattle.conn_model.specs.Caches.{nothing_known};
     ghost use Rattle.conn_cache.specs.QueryProcesses.{without_value};
     ghost use Rattle.conn_manager.specs.Manages.{HasServerCause};
+    ghost use Rattle.conn_model.specs.Rows.{Notifies};
     ghost use Rattle.conn_drivers.specs.Establishing.{Establishes};
     ghost use Rattle.conn_drivers.specs.Loading.{AsksBy};
     ghost use Rattle.conn_drivers.specs.Loadings.{LoadsBetween, LoadsBy};
@@ -74,7 +75,7 @@ impl<S: Server, H: Instrumentation + Drop> RawConnection<S, H> {
     }
 
     /// Takes the room that a query may need: for a prepare, a run, and a row that is refused.
-    fn reserve_for<Q: Query>(&mut self, source: &Q) -> QueryResult<()>
+    pub(crate) fn reserve_for<Q: Query>(&mut self, source: &Q) -> QueryResult<()>
         ensures reserved { let q = Q.view source.now in Reserves 3
             (length q.sql + run_bytes q.sql q.binds)
             (S.seen self.old.wire.server) (S.seen self.new.wire.server) result }
@@ -101,6 +102,16 @@ impl<S: Server, H: Instrumentation + Drop> RawConnection<S, H> {
             Some(e) => Err(e),
             None => self.wire.query(&mut self.cache, source, &mut self.handler),
         }
+    }
+
+    /// Takes the notification that waits longest, where one does.
+    pub(crate) fn notify(&mut self) -> Option<Notification>
+        ensures takes { Notifies (S.seen self.old.wire.server) (S.seen self.new.wire.server)
+            result }
+        ensures same { (shows S.seen H.told self.new) ≡ record (shows S.seen H.told self.old)
+            { seen = S.seen self.new.wire.server } }
+    {
+        self.wire.server.notify()
     }
 
     /// What a load does between its two events.
@@ -132,7 +143,7 @@ impl<S: Server, H: Instrumentation + Drop> RawConnection<S, H> {
     }
 
     /// Loads a query, and tells its handler of its start and of its end.
-    fn load_by<Q: Query, G: Gather>(
+    pub(crate) fn load_by<Q: Query, G: Gather>(
         &mut self,
         alloc: Global,
         source: &Q,

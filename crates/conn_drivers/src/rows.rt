@@ -91,7 +91,7 @@ pub(crate) fn read_first<R: RowReader>(
 }
 
 /// Puts a row behind the others.
-fn hold(rows: &mut Vec<Row>, row: Row) -> QueryResult<()>
+pub(crate) fn hold(rows: &mut Vec<Row>, row: Row) -> QueryResult<()>
     ensures { MatchResult result (λ _. rows.new.items ≡ rows.old.items ++ row ∷ [])
         (λ e. e ≡ OutOfMemory) }
 {

@@ -2,6 +2,7 @@
 use Rattle.std.proofs.Common.{◌≡◌, Bool, true, false, ℕ, List, [], ◌∷◌, ◌++◌, refl, sym, ap, subst, ◌∙◌, Option, Some, None, Ok, Err}
 use Rattle.std.specs.Prelude.{⊤, ◌==◌, if◌then◌else◌}
 use Rattle.conn_result.specs.declared.error.Error.{Error}
+use Rattle.conn_result.specs.declared.pool.Error.TheVariants as pooling
 use Rattle.conn_model.specs.Armed.{Armed}
 use Rattle.conn_model.specs.Classes.{class, begins, is_begin, is_built, is_write, same_text, number_behind}
 use Rattle.conn_model.specs.Nuls.{nul_fault}
@@ -23,7 +24,9 @@ use Rattle.conn_script.specs.declared.command.QueryCall.{QueryCall}
 use Rattle.conn_script.specs.declared.command.QueryCall.TheVariants as query_calls
 use Rattle.conn_script.specs.declared.request.Verb.{Verb}
 use Rattle.conn_script.specs.declared.request.Verb.TheVariants as verbs
-use Rattle.conn_reading.specs.Asking.{Outcome, declared_process, find_query, process_of, query_call_process, reply_as, told_as, view_of}
+use Rattle.conn_script.specs.declared.command.Customizer.{Customizer}
+use Rattle.conn_script.specs.declared.command.Customizer.TheVariants as customizers
+use Rattle.conn_reading.specs.Asking.{check_deed, customizer_deed, Outcome, declared_process, find_query, process_of, query_call_process, reply_as, told_as, view_of}
 use Rattle.conn_reading.specs.Blocks.{plain_deed, if_live, closing, deed_in, deed_of}
 use Rattle.conn_reading.specs.Folds.{Stack, Kind, Begins, Commits, Rolls, Closes, Sends, after_reply, kind_of, KeepsLive}
 use Rattle.conn_reading.specs.Histories.{Operation, Begin, Commit, Rollback, TestBegin, Close, Asks, IsOperation, left_status, operation_process}
@@ -89,7 +92,7 @@ declared_plainly call n (q ∷ qs) c d S h = by_number (q.number == n) (declared
         own_plainly d (view_of q) c.register (λ (o : Outcome). o.status) (λ (o : Outcome). o.cache) false None S (query_call_process d call q.shape (view_of q) S c) h.0 (call_own d call q.shape (view_of q) S c)
     by_number false rest = rest
 
-ping_plain : is_plain (class ping_view.sql) ≡ true
+pub ping_plain : is_plain (class ping_view.sql) ≡ true
 unfolding class begins is_begin is_built is_write same_text number_behind
 ping_plain = refl
 
@@ -113,6 +116,16 @@ module _ (queries : List Declared) (all : QueriesPlain queries) where
   plain_deed_plain (verbs.Query call n) plain = λ c d S. ended_plainly d S (declared_process d call (find_query n queries) S c) (declared_plainly call n queries c d S all)
   plain_deed_plain (verbs.Cache size) plain = λ c d S. refl
   plain_deed_plain verbs.Ping plain = λ c d S. ended_plainly d S (process_of d queries S c deeds.Ping) (ping_plainly queries c d S)
+
+  -- and what `get` asks
+  pub customizer_plain : (z : Customizer) → IsPlain (customizer_deed z)
+  customizer_plain customizers.Nop = tt
+  customizer_plain customizers.Test = plain_deed_plain verbs.TestBegin tt
+  customizer_plain customizers.Begin = plain_deed_plain verbs.Begin tt
+
+  pub check_plain : (check : Bool) → IsPlain (check_deed check)
+  check_plain true = plain_deed_plain verbs.Ping tt
+  check_plain false = tt
 
   if_live_plain : (state : BlockState) (deed : Option Deed) → IsPlain deed → IsPlain (if_live state deed)
   if_live_plain Live deed h = h
@@ -194,7 +207,10 @@ sends_stack (replies.Rows rows) k = refl
 sends_stack (replies.OneRow row) k = refl
 sends_stack replies.NoRow k = refl
 sends_stack (replies.Error e) k = refl
-sends_stack (replies.Pool e) k = refl
+sends_stack (replies.Pool (pooling.ConnectionError e)) k = refl
+sends_stack (replies.Pool (pooling.QueryError e n)) k = refl
+sends_stack (replies.Pool (pooling.LeftOpen n)) k = refl
+sends_stack (replies.Pool pooling.OutOfMemory) k = refl
 
 -- what was read for a deed, as what the call read
 pub record DeedReads (d : Dialect) (s : State) (S : Status) (queries : List Declared) (c : Known) (deed : Deed) (left : List Item) (r : Read Outcome) : Type 0 where

@@ -29,10 +29,14 @@ pub mod Queries
 pub mod Owned
 pub mod KeysKept
 pub mod Deeds
+pub mod Checked
 pub mod SessionKept
 pub mod Opening
 pub mod SessionCalls
+pub mod SessionPlaces
 pub mod SessionMoves
+pub mod SessionReadies
+pub mod SessionMore
 pub mod SessionOpens
 pub mod SessionNests
 pub mod SessionSlots
@@ -46,3 +50,4 @@ pub mod SetupExamples
 pub mod LookExamples
 pub mod QueryExamples
 pub mod LoadExamples
+pub mod PoolExamples

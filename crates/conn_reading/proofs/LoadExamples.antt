@@ -25,6 +25,7 @@ use Rattle.conn_cache.specs.Keys.{same_types}
 use Rattle.conn_report.specs.declared.entry.Entry.{Entry}
 use Rattle.conn_report.specs.declared.entry.Reply.TheVariants as replies
 use Rattle.conn_script.specs.Drafts.{empty_script}
+use Rattle.conn_script.specs.Headers.{plain_header}
 use Rattle.conn_script.specs.declared.command.Act.TheVariants as acts
 use Rattle.conn_script.specs.declared.command.QueryCall.TheVariants.{Load, One, Optional}
 use Rattle.conn_script.specs.declared.command.Script.{Script}
@@ -49,7 +50,7 @@ abbrev second_row : Values
 second_row = values.Int (pos 8) ∷ values.Null ∷ values.Null ∷ []
 
 abbrev loading_script : Script
-loading_script = record (empty_script Sqlite) {
+loading_script = record (empty_script (plain_header Sqlite)) {
   plan = Rows (codes "SELECT a") first_row ∷ Rows (codes "SELECT a") second_row ∷ [];
   queries =
       query 0 (Some ((kinds.Int, false) ∷ (kinds.Text, true) ∷ [])) (codes "SELECT a")

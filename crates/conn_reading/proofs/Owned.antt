@@ -1,8 +1,10 @@
 -- The items of a command are its own, and its connection's cache is as they leave it.
-use Rattle.std.proofs.Common.{◌≡◌, ℕ, ◌-◌, true, false, List, [], ◌∷◌, ◌++◌, length, length-append, take, Option, Some, None, refl, sym, ap, subst, ◌∙◌, arith}
-use Rattle.std.specs.Prelude.{if◌then◌else◌}
+use Rattle.std.proofs.Common.{◌≡◌, ℕ, ◌-◌, true, false, List, [], ◌∷◌, ◌++◌, length, length-append, length-set, take, Bool, Option, Some, None, refl, sym, ap, subst, ◌∙◌, arith, inl, inr}
+use Rattle.std.specs.Prelude.{if◌then◌else◌, is_some, slice_set}
 use Rattle.std.specs.Option.{option_map}
 use Rattle.std.proofs.Math.Seq.{take-append_seam}
+use Rattle.std.proofs.lemmas.Bool.Decides.{leb_tells}
+use Rattle.conn_result.specs.declared.pool.Error.{Error as PoolError}
 use Rattle.conn_model.specs.Caches.{same_size, Known, Register}
 use Rattle.conn_model.specs.Nuls.{nul_fault}
 use Rattle.conn_model.specs.Process.{Process, Stop, map_process}
@@ -23,16 +25,16 @@ use Rattle.conn_script.specs.declared.command.QueryCall.{QueryCall}
 use Rattle.conn_script.specs.declared.request.Request.{Request}
 use Rattle.conn_script.specs.declared.request.Request.TheVariants.{Get, Put, On}
 use Rattle.conn_script.specs.declared.request.Verb.{Verb}
-use Rattle.conn_reading.specs.Answered.{ServerLogs, Progress, Taken, reads, reads_deed, reads_on, seat_after, taken_on, with_blocks, with_left}
-use Rattle.conn_reading.specs.Asking.{Outcome, close_process, declared_process, find_query, process_of, query_call_process, told_as, view_of}
+use Rattle.conn_reading.specs.Answered.{ServerLogs, Progress, Taken, readied, reads, reads_deed, reads_get, reads_on, reads_ready, refusal_of, seat_after, taken_on, taken_ready, with_blocks, with_left, with_slots}
+use Rattle.conn_reading.specs.Asking.{Outcome, check_deed, close_process, declared_process, find_query, process_of, query_call_process, told_as, view_of}
 use Rattle.conn_reading.specs.Blocks.{block_on, deed_of}
-use Rattle.conn_reading.specs.Owning.{EachOwn, HasRegister, IsCallOf, IsOwn, IsOwnDeed, IsOwnOf, IsText, OwnAt, OwnOn, last_given, names_of, read_of, register_given, register_queried, register_read}
+use Rattle.conn_reading.specs.Owning.{EachOwn, HandsOut, HasRegister, IsCallOf, IsOwn, IsOwnDeed, IsOwnOf, IsText, OwnAt, OwnGet, OwnItems, OwnKept, OwnOn, last_given, names_of, read_of, register_given, register_queried, register_read}
 use Rattle.conn_reading.specs.Reading.{Read, Reads, read}
 use Rattle.conn_reading.specs.Seats.{Seat, at_number}
 use Rattle.conn_reading.specs.Sessions.{Each}
 use Rattle.conn_reading.specs.declared.deed.Deed.{Deed}
 use Rattle.conn_reading.specs.declared.deed.Deed.TheVariants as deeds
-use Rattle.conn_reading.proofs.ByNumber.{at_within, at-set}
+use Rattle.conn_reading.proofs.ByNumber.{at_past, at_within, at-set}
 use Rattle.conn_reading.proofs.ItemsRead.{reads_front, reads_unmap}
 use Rattle.conn_reading.proofs.Looks.{Texts, LooksWell, begins_text, closings_text, commits_text, reads_so, rollbacks_text, so_looks, test_begins_text, text_asks, texts_map}
 use Rattle.conn_reading.proofs.Queries.{DeedAsksOwn, call_own, counter_is, own_register, own_rise, own_so, ping_own}
@@ -216,8 +218,54 @@ own_verb p logs line n verb t is = by_read (reads_deed p logs line (verb_word ve
         still (Some y) None v h = tt
         still (Some y) (Some seat) v h = h
 
+-- the check of a connection that was kept
+module _ (p : Progress) (logs : ServerLogs) (line : ℕ) (deed : Deed) (seat : Seat) (r : Read Outcome) (t : Taken) where
+  abbrev after : Seat
+  after = seat_after seat (length (logs seat.number)) r
+
+  -- where it is handed out it is out
+  out_has : (register : Register) → r.value.cache.register ≡ register → is_some (at_number seat.number (slice_set p.context.out seat.number (Some after))) ≡ true
+      → HasRegister register (at_number seat.number (slice_set p.context.out seat.number (Some after)))
+  out_has register is there = elim (leb_tells (length p.context.out) seat.number) [
+    | inl past ↦ (let none : at_number seat.number (slice_set p.context.out seat.number (Some after)) ≡ None = at_past seat.number (slice_set p.context.out seat.number (Some after)) (omega (arith, past.1, length-set p.context.out seat.number (Some after))) in
+        absurd (cc))
+    | inr within ↦ subst (HasRegister register) (sym (at-set seat.number p.context.out (Some after) within.1)) is
+  ]
+
+  readied_has : (e : Option PoolError) (register : Register) → r.value.cache.register ≡ register → let u : Taken = readied p (with_left logs seat.number r.left) line after e in HandsOut seat.number u → HasRegister register (at_number seat.number u.progress.context.out)
+  readied_has None register is out = out_has register is out.1
+  readied_has (Some e) register is out = absurd (cc)
+
+  left_readied : (e : Option PoolError) → (readied p (with_left logs seat.number r.left) line after e).left seat.number ≡ r.left
+  left_readied None = left_at logs seat.number r.left
+  left_readied (Some e) = left_at logs seat.number r.left
+
+  readied_own : (e : Option PoolError) → read p.dialect p.armed seat.state (process_of p.dialect p.queries seat.status seat.cache deed) (logs seat.number) ≡ Some r → OwnKept p logs (Some deed) seat (readied p (with_left logs seat.number r.left) line after e)
+  readied_own e is =
+      let front = reads_front p.dialect p.armed seat.state (process_of p.dialect p.queries seat.status seat.cache deed) (logs seat.number) r is in
+      let owns : DeedOwns p.dialect p.queries seat.cache deed front.used r.value.cache = deed_owns p.dialect seat.state seat.status p.queries seat.cache front.used r.value r.state deed front.each in
+      let u : Taken = readied p (with_left logs seat.number r.left) line after e in
+      let used : read_of (logs seat.number) (u.left seat.number) ≡ front.used = ap (read_of (logs seat.number)) (left_readied e) ∙ used_is (logs seat.number) front.used r.left front.all in
+      subst (λ (items : List Item). OwnItems p.dialect p.queries deed seat.cache.register items × (HandsOut seat.number u → HasRegister (register_read p.dialect p.queries deed items seat.cache.register) (at_number seat.number u.progress.context.out))) (sym used)
+      (owns.own, readied_has e (register_read p.dialect p.queries deed front.used seat.cache.register) owns.register)
+
+own_ready : (p : Progress) (logs : ServerLogs) (line : ℕ) (fresh : Bool) (deed : Option Deed) (seat : Seat) (t : Taken) → reads_ready p logs line fresh deed seat ≡ Some t → OwnKept p logs deed seat t
+own_ready p logs line fresh None seat t is = tt
+own_ready p logs line fresh (Some deed) seat t is = by_read (read p.dialect p.armed seat.state (process_of p.dialect p.queries seat.status seat.cache deed) (logs seat.number)) refl is
+  where
+    by_read : (o : Option (Read Outcome)) → read p.dialect p.armed seat.state (process_of p.dialect p.queries seat.status seat.cache deed) (logs seat.number) ≡ o → option_map (taken_ready p logs line fresh seat) o ≡ Some t → OwnKept p logs (Some deed) seat t
+    by_read None e i = absurd (cc)
+    by_read (Some r) e i =
+        let same : taken_ready p logs line fresh seat r ≡ t = cc in
+        subst (OwnKept p logs (Some deed) seat) same (readied_own p logs line deed seat r t (refusal_of fresh (seat_after seat (length (logs seat.number)) r) r.value.reply) e)
+
+own_get : (p : Progress) (logs : ServerLogs) (line : ℕ) (slots : List (Option Seat)) (t : Taken) → reads_get p logs line slots ≡ Some t → OwnGet p logs slots t
+own_get p logs line [] t is = tt
+own_get p logs line (None ∷ rest) t is = tt
+own_get p logs line (Some seat ∷ rest) t is = own_ready (with_slots p rest) logs line false (check_deed p.policy.check) seat t is
+
 pub own_at : (p : Progress) (logs : ServerLogs) (line : ℕ) (request : Request) (t : Taken) → reads p logs line request ≡ Some t → OwnAt p logs request t
-own_at p logs line Get t is = tt
+own_at p logs line Get t is = own_get p logs line p.context.slots t is
 own_at p logs line (Put n) t is = tt
 own_at p logs line (On n verb) t is = own_verb p logs line n verb t is
 

@@ -5,6 +5,7 @@ use Rattle.std.specs.List.{list_any}
 use Rattle.std.proofs.lemmas.List.{take-append-drop}
 use Rattle.std.proofs.lemmas.List.Folds.{list_any-append}
 use Rattle.conn_result.specs.declared.error.DatabaseErrorKind.{DatabaseErrorKind}
+use Rattle.conn_result.specs.declared.pool.Error.TheVariants as pooling
 use Rattle.conn_model.specs.Classes.{class}
 use Rattle.conn_model.specs.States.{State, Idle, Open, Lost, Transaction, Writes, commits, idle_accepts, open_refuses, refuses, step_refused, step, step_by, steps, state_of}
 use Rattle.conn_model.specs.declared.class.Class.{Class}
@@ -29,10 +30,10 @@ use Rattle.conn_script.specs.declared.command.Command.{Command}
 use Rattle.conn_reading.specs.Answered.{ServerLogs, answered}
 use Rattle.conn_manager.specs.Agrees.{is_mysql}
 use Rattle.conn_manager.specs.Manages.{Reply as CallAnswer}
-use Rattle.conn_reading.specs.Blocks.{request_deed}
+use Rattle.conn_reading.specs.Asking.{Policy, policy_of}
 use Rattle.conn_reading.specs.Folds.{Level, Stack, Kind, Begins, Commits, Rolls, Closes, Sends, after_reply, KeepsLive, merged_in, without_top, written, written_in, emptied, is_savepoint_class, is_accepted, is_idle, ends, aborts, after_abort, runs_write, after_write, after_end, after_item, after_items, refuses_transaction, SetsInOpen, IsDoomed}
 use Rattle.conn_reading.specs.Histories.{step_items}
-use Rattle.conn_reading.specs.Sessions.{Each, Folded, unfolded, mark_of, is_opened, deed_kind, after_deed, between, after_mark, after_entry, DeedLive, MarkLive, EntriesLive, EntryPremises, PremisesLeft}
+use Rattle.conn_reading.specs.Sessions.{Each, Folded, deed_here, unfolded, mark_of, is_opened, deed_kind, after_deed, between, after_mark, after_entry, DeedLive, MarkLive, EntriesLive, EntryPremises, PremisesLeft}
 use Rattle.conn_reading.specs.declared.deed.Deed.{Deed}
 use Rattle.conn_reading.specs.Verdicts.{runs_class}
 use Rattle.conn_reading.proofs.Following.{history_sound}
@@ -185,6 +186,8 @@ reply_keeps : (deed : Option Deed) (reply : Reply) (k : Stack) → NoneDoomed k.
 reply_keeps None reply k h = h
 reply_keeps (Some deed) replies.Ok k h = answer_keeps (deed_kind deed) (Ok tt) k h
 reply_keeps (Some deed) (replies.Error e) k h = answer_keeps (deed_kind deed) (Err e) k h
+reply_keeps (Some deed) (replies.Pool (pooling.QueryError e n)) k h = answer_keeps (deed_kind deed) (Err e) k h
+reply_keeps (Some deed) (replies.Pool (pooling.LeftOpen n)) k h = answer_keeps (deed_kind deed) (Ok tt) k h
 reply_keeps (Some deed) _ k h = h
 
 kind_live : (kind : Kind) (k : Stack) → NoneDoomed k.levels → KeepsLive kind (Ok tt) k
@@ -222,30 +225,30 @@ entries_live : (n : ℕ) (log : List Item) (commands : List Command) (entries : 
 entries_live n log [] entries f none h = tt
 entries_live n log (c ∷ cs) [] f none h = tt
 entries_live n log (c ∷ cs) (e ∷ es) f none h =
-    let first = mark_live log (request_deed f.blocks (request_of c.act)) e.reply f (mark_of n e.connection e.mark) none h in
+    let first = mark_live log (deed_here f (request_of c.act)) e.reply f (mark_of n e.connection e.mark) none h in
     (first.0, entries_live n log cs es (after_entry n log (request_of c.act) e f) none first.1)
 
 -- ---- the laws
 
 -- where no text of a transaction was refused, the others are what the dialect leaves
-pub lawful_premises : (d : Dialect) (n : ℕ) (log : List Item) (commands : List Command) (entries : List Entry) (end : State) → state_of d log ≡ Some end → list_any refuses_transaction log ≡ false → PremisesLeft d n log commands entries
-    → EntryPremises d n log commands entries
-lawful_premises Pg n log commands entries end lawful none left = record { none_refused = none; none_in_idle = (lawful_meets Pg (Idle []) end log lawful).0 refl; live = left }
-lawful_premises Mysql n log commands entries end lawful none left = record { none_refused = none; none_in_idle = left; live = entries_live n log commands entries unfolded ((lawful_meets Mysql (Idle []) end log lawful).1 refl) tt }
-lawful_premises Sqlite n log commands entries end lawful none left =
+pub lawful_premises : (d : Dialect) (policy : Policy) (n : ℕ) (log : List Item) (commands : List Command) (entries : List Entry) (end : State) → state_of d log ≡ Some end → list_any refuses_transaction log ≡ false → PremisesLeft d policy n log commands entries
+    → EntryPremises d policy n log commands entries
+lawful_premises Pg policy n log commands entries end lawful none left = record { none_refused = none; none_in_idle = (lawful_meets Pg (Idle []) end log lawful).0 refl; live = left }
+lawful_premises Mysql policy n log commands entries end lawful none left = record { none_refused = none; none_in_idle = left; live = entries_live n log commands entries (unfolded policy) ((lawful_meets Mysql (Idle []) end log lawful).1 refl) tt }
+lawful_premises Sqlite policy n log commands entries end lawful none left =
     let h = lawful_meets Sqlite (Idle []) end log lawful in
-    record { none_refused = none; none_in_idle = h.0 refl; live = entries_live n log commands entries unfolded (h.1 refl) tt }
+    record { none_refused = none; none_in_idle = h.0 refl; live = entries_live n log commands entries (unfolded policy) (h.1 refl) tt }
 
 -- the log of a server that was opened is that of a history, and so lawful
-session_premises : (d : Dialect) (logs : ServerLogs) (commands : List Command) (entries : List Entry) (n : ℕ) → SessionSays d logs commands entries → is_opened n entries ≡ true → list_any refuses_transaction (logs n) ≡ false → PremisesLeft d n (logs n) commands entries
-    → EntryPremises d n (logs n) commands entries
-session_premises d logs commands entries n s opened none left =
+session_premises : (d : Dialect) (logs : ServerLogs) (policy : Policy) (commands : List Command) (entries : List Entry) (n : ℕ) → SessionSays d logs policy commands entries → is_opened n entries ≡ true → list_any refuses_transaction (logs n) ≡ false → PremisesLeft d policy n (logs n) commands entries
+    → EntryPremises d policy n (logs n) commands entries
+session_premises d logs policy commands entries n s opened none left =
     let t : Track = s.tracks n in
     let ended : IsTrack d (logs n) [] t = s.ended n (s.entries_say.opened_before n opened) in
     let all : logs n ≡ step_items t.steps = ended.all ∙ append-nil (step_items t.steps) in
     let sound = history_sound d t.steps t.status (record { state = t.state; follows = ended.follows }) in
-    lawful_premises d n (logs n) commands entries t.state (ap (state_of d) all ∙ sound.gives.lawful) none left
+    lawful_premises d policy n (logs n) commands entries t.state (ap (state_of d) all ∙ sound.gives.lawful) none left
 
 pub premises_left : (bytes : List ℕ) (script : Script) (logs : ServerLogs) (entries : List Entry) → script_of bytes ≡ Ok script → answered script logs ≡ Some entries → (n : ℕ) → is_opened n entries ≡ true → list_any refuses_transaction (logs n) ≡ false
-    → PremisesLeft script.dialect n (logs n) script.commands entries → EntryPremises script.dialect n (logs n) script.commands entries
-premises_left bytes script logs entries parsed is n opened none left = session_premises script.dialect logs script.commands entries n (says bytes script logs entries parsed is) opened none left
+    → PremisesLeft script.dialect (policy_of script) n (logs n) script.commands entries → EntryPremises script.dialect (policy_of script) n (logs n) script.commands entries
+premises_left bytes script logs entries parsed is n opened none left = session_premises script.dialect logs (policy_of script) script.commands entries n (says bytes script logs entries parsed is) opened none left

@@ -19,6 +19,7 @@ use Rattle.conn_cache.specs.Keys.{same_types}
 use Rattle.conn_report.specs.declared.entry.Entry.{Entry}
 use Rattle.conn_report.specs.declared.entry.Reply.TheVariants as replies
 use Rattle.conn_script.specs.Drafts.{empty_script}
+use Rattle.conn_script.specs.Headers.{plain_header}
 use Rattle.conn_script.specs.declared.command.Act.TheVariants as acts
 use Rattle.conn_script.specs.declared.command.QueryCall.TheVariants as query_calls
 use Rattle.conn_script.specs.declared.command.Script.{Script}
@@ -26,6 +27,7 @@ use Rattle.conn_script.specs.declared.command.Word.TheVariants as words
 use Rattle.conn_script.specs.declared.query.Declared.{Declared}
 use Rattle.conn_script.specs.declared.query.Safety.TheVariants.{Safe}
 use Rattle.conn_reading.specs.Answered.{ServerLogs, answered}
+use Rattle.conn_reading.specs.Asking.{policy_of}
 use Rattle.conn_reading.specs.Owning.{names_of}
 use Rattle.conn_reading.specs.Seats.{make_entry}
 use Rattle.conn_reading.specs.Sessions.{unfolded, fold_entries}
@@ -37,7 +39,7 @@ abbrev query_b : Declared
 query_b = record { number = 1; safety = Safe; id = None; binds = []; shape = None; text = codes "UPDATE b" }
 
 abbrev asking_script : Script
-asking_script = record (empty_script Sqlite) {
+asking_script = record (empty_script (plain_header Sqlite)) {
   queries = query_a ∷ query_b ∷ [];
   commands =
       record { line = 5; act = acts.Get }
@@ -93,6 +95,6 @@ queries_answer = refl
 names_are : names_of asked_log ≡ 1 ∷ 2 ∷ 3 ∷ []
 names_are = refl
 
-queries_fold : (fold_entries 0 asked_log asking_script.commands asked_entries unfolded).stack.lowest ≡ codes "UPDATE a" ∷ codes "UPDATE a" ∷ codes "UPDATE b" ∷ codes "UPDATE a" ∷ []
+queries_fold : (fold_entries 0 asked_log asking_script.commands asked_entries (unfolded (policy_of asking_script))).stack.lowest ≡ codes "UPDATE a" ∷ codes "UPDATE a" ∷ codes "UPDATE b" ∷ codes "UPDATE a" ∷ []
 unfolding class is_begin is_built is_write same_text begins number_behind digits
 queries_fold = refl

@@ -10,6 +10,7 @@ use Rattle.conn_report.specs.declared.entry.Reply.{Reply}
 use Rattle.conn_script.specs.declared.command.Word.{Word}
 use Rattle.conn_model.specs.Caches.{Register}
 use Rattle.conn_reading.specs.Answered.{ServerLogs, with_left}
+use Rattle.conn_reading.specs.Asking.{Policy}
 use Rattle.conn_reading.specs.Folds.{Stack, alone, fold_of, after_reply, kind_of, KeepsLive, AllKeepLive}
 use Rattle.conn_reading.specs.Histories.{Operation, IsOperation, operation_process, Step, step_items, StartsSetUp}
 use Rattle.conn_reading.specs.Owning.{names_of}
@@ -18,16 +19,16 @@ use Rattle.conn_reading.specs.Seats.{Seat, make_entry}
 use Rattle.conn_reading.specs.Sessions.{IsClean, mark_of, after_deed, after_mark, between, DeedLive, MarkLive}
 use Rattle.conn_reading.specs.declared.blocks.Block.{Block}
 use Rattle.conn_reading.specs.declared.deed.Deed.{Deed}
-use Rattle.conn_reading.proofs.SessionKept.{Tracks, SeatIs, SeatOf, EndsWith, IsAt, EntrySays}
+use Rattle.conn_reading.proofs.SessionKept.{Tracks, SeatIs, SeatOf, EndsWith, IsAt, Deeds, deed_on, EntrySays}
 use Rattle.conn_reading.proofs.Rising.{RisesTo}
-use Rattle.conn_reading.proofs.Tracks.{Track, IsTrack, moved, moved_is, moved_count, folded, folded_at, fold-last, live-last, between_is}
+use Rattle.conn_reading.proofs.Tracks.{Track, IsTrack, moved, moved_is, moved_count, has_call, begun-last, folded, folded_at, fold-last, live-last, between_is}
 
 -- ---- one number of many
 
 abbrev pub with_track : Tracks → ℕ → Track → Tracks
 with_track tracks n t k = if k == n then t else tracks k
 
-track_same : (tracks : Tracks) (n : ℕ) (t : Track) → with_track tracks n t n ≡ t
+pub track_same : (tracks : Tracks) (n : ℕ) (t : Track) → with_track tracks n t n ≡ t
 track_same tracks n t = grind arith
 
 track_other : (tracks : Tracks) (n k : ℕ) (t : Track) → k ≢ n → with_track tracks n t k ≡ tracks k
@@ -39,10 +40,10 @@ left_same logs n rest = grind arith
 left_other : (logs : ServerLogs) (n k : ℕ) (rest : List Item) → k ≢ n → with_left logs n rest k ≡ logs k
 left_other logs n k rest h = grind arith
 
-mark_same : (n m : ℕ) → mark_of n (Some n) (Some m) ≡ Some m
+pub mark_same : (n m : ℕ) → mark_of n (Some n) (Some m) ≡ Some m
 mark_same n m = grind arith
 
-mark_other : (n c m : ℕ) → c ≢ n → mark_of n (Some c) (Some m) ≡ None
+pub mark_other : (n c m : ℕ) → c ≢ n → mark_of n (Some c) (Some m) ≡ None
 mark_other n c m h = grind arith
 
 -- what is so of an entry without a mark, and of the one that moved, is so
@@ -114,27 +115,28 @@ module _ (d : Dialect) (logs left : ServerLogs) (tracks : Tracks) (n : ℕ) (ope
   all_read : logs n ≡ step_items before.steps ++ (c.used ++ r.left)
   all_read = (tracked n).all ∙ ap (λ (l : List Item). step_items before.steps ++ l) c.all
 
-  next_folds : (blocks : List Block) (deed : Option Deed) (reply : Reply) (mark : ℕ) → FoldsAs deed reply operation r.value → mark ≡ length (step_items before.steps) + length c.used
-      → after_mark (logs n) deed reply (folded blocks before) (Some mark) ≡ folded blocks next
-  next_folds blocks deed reply mark f count =
+  next_folds : (policy : Policy) (blocks : List Block) (deed : Option Deed) (reply : Reply) (mark : ℕ) → FoldsAs deed reply operation r.value → mark ≡ length (step_items before.steps) + length c.used
+      → after_mark (logs n) deed reply (folded policy blocks before) (Some mark) ≡ folded policy blocks next
+  next_folds policy blocks deed reply mark f count =
       let step : Step = record { operation = operation; items = c.used; answer = r.value } in
-      folded_at (folded blocks before) mark (length (step_items next.steps)) _ (fold_of next.steps (alone []))
+      folded_at (folded policy blocks before) mark (length (step_items next.steps)) _ (fold_of next.steps (alone [])) (has_call next.steps)
       (count ∙ sym (moved_count before operation c.used r c.register))
-      (f.stack (between (logs n) (folded blocks before) mark) ∙ ap (λ (k : Stack). after_reply (kind_of operation) r.value.reply k) (between_is (logs n) c.used r.left blocks before mark all_read count) ∙ sym (fold-last before.steps step (alone [])))
+      (f.stack (between (logs n) (folded policy blocks before) mark) ∙ ap (λ (k : Stack). after_reply (kind_of operation) r.value.reply k) (between_is (logs n) c.used r.left policy blocks before mark all_read count) ∙ sym (fold-last before.steps step (alone [])))
+      (begun-last before.steps step)
 
-  next_live : (blocks : List Block) (deed : Option Deed) (reply : Reply) (mark : ℕ) → FoldsAs deed reply operation r.value → mark ≡ length (step_items before.steps) + length c.used
-      → DeedLive deed reply (between (logs n) (folded blocks before) mark) → AllKeepLive before.steps (alone []) → AllKeepLive next.steps (alone [])
-  next_live blocks deed reply mark f count live h =
+  next_live : (policy : Policy) (blocks : List Block) (deed : Option Deed) (reply : Reply) (mark : ℕ) → FoldsAs deed reply operation r.value → mark ≡ length (step_items before.steps) + length c.used
+      → DeedLive deed reply (between (logs n) (folded policy blocks before) mark) → AllKeepLive before.steps (alone []) → AllKeepLive next.steps (alone [])
+  next_live policy blocks deed reply mark f count live h =
       let step : Step = record { operation = operation; items = c.used; answer = r.value } in
-      live-last before.steps step (alone []) h (subst (λ (k : Stack). KeepsLive (kind_of operation) r.value.reply k) (between_is (logs n) c.used r.left blocks before mark all_read count) (f.live (between (logs n) (folded blocks before) mark) live))
+      live-last before.steps step (alone []) h (subst (λ (k : Stack). KeepsLive (kind_of operation) r.value.reply k) (between_is (logs n) c.used r.left policy blocks before mark all_read count) (f.live (between (logs n) (folded policy blocks before) mark) live))
 
   -- what the entry says that shows the call
-  pub call_says : (opened : ℕ) (blocks : List Block) (deed : Option Deed) (line : ℕ) (word : Word) (reply : Reply) (status : Option Status) (mark : ℕ) → n < opened → IsAt d logs with_call (Some n) status (Some mark) → IsClean word reply status
-      → FoldsAs deed reply operation r.value → mark ≡ length (step_items before.steps) + length c.used → EntrySays d logs tracks with_call opened blocks deed (make_entry line word (Some n) reply status (Some mark))
-  call_says opened blocks deed line word reply status mark low at clean f count = record {
+  pub call_says : (policy : Policy) (opened : ℕ) (blocks : List Block) (deeds : Deeds) (line : ℕ) (word : Word) (reply : Reply) (status : Option Status) (mark : ℕ) → n < opened → IsAt d logs with_call (Some n) status (Some mark) → IsClean word reply status
+      → FoldsAs (deed_on deeds before) reply operation r.value → mark ≡ length (step_items before.steps) + length c.used → EntrySays d logs policy tracks with_call opened blocks deeds (make_entry line word (Some n) reply status (Some mark))
+  call_says policy opened blocks deeds line word reply status mark low at clean f count = record {
     at = at;
     clean = clean;
-    folds = moves_each tracks n next (λ k o x. after_mark (logs k) deed reply (folded blocks (tracks k)) o ≡ folded blocks x) mark (λ k. refl) (next_folds blocks deed reply mark f count);
-    live = moves_each tracks n next (λ k o x. MarkLive (logs k) deed reply (folded blocks (tracks k)) o → AllKeepLive (tracks k).steps (alone []) → AllKeepLive x.steps (alone [])) mark (λ k l g. g) (next_live blocks deed reply mark f count);
+    folds = moves_each tracks n next (λ k o x. after_mark (logs k) (deed_on deeds (tracks k)) reply (folded policy blocks (tracks k)) o ≡ folded policy blocks x) mark (λ k. refl) (next_folds policy blocks (deed_on deeds before) reply mark f count);
+    live = moves_each tracks n next (λ k o x. MarkLive (logs k) (deed_on deeds (tracks k)) reply (folded policy blocks (tracks k)) o → AllKeepLive (tracks k).steps (alone []) → AllKeepLive x.steps (alone [])) mark (λ k l g. g) (next_live policy blocks (deed_on deeds before) reply mark f count);
     opened_before = moves_each tracks n next (λ k o x. is_some o ≡ true → k < opened) mark (λ k e. absurd (cc)) (λ e. low);
   }

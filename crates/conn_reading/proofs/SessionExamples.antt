@@ -12,17 +12,19 @@ use Rattle.conn_manager.specs.Statuses.{Status, no_depth, at_depth}
 use Rattle.conn_report.specs.declared.entry.Entry.{Entry}
 use Rattle.conn_report.specs.declared.entry.Reply.TheVariants as replies
 use Rattle.conn_script.specs.Drafts.{empty_script}
+use Rattle.conn_script.specs.Headers.{plain_header}
 use Rattle.conn_script.specs.declared.command.Act.TheVariants as acts
 use Rattle.conn_script.specs.declared.command.Script.{Script}
 use Rattle.conn_script.specs.declared.command.Word.TheVariants as words
 use Rattle.conn_reading.specs.Answered.{ServerLogs, answered}
+use Rattle.conn_reading.specs.Asking.{policy_of}
 use Rattle.conn_reading.specs.Seats.{make_entry}
 use Rattle.conn_reading.specs.Sessions.{AllPlain, is_opened, unfolded, fold_entries, EntryPremises}
 use Rattle.conn_reading.proofs.Premises.{lawful_premises}
 
 -- begin, write a, commit
 abbrev the_script : Script
-the_script = record (empty_script Sqlite) {
+the_script = record (empty_script (plain_header Sqlite)) {
   commands =
       record { line = 2; act = acts.Get }
       ∷ record { line = 3; act = acts.Begin 0 }
@@ -65,10 +67,10 @@ is_there : is_opened 0 the_entries ≡ true
 is_there = refl
 
 -- a is kept
-the_fold : (fold_entries 0 the_log the_script.commands the_entries unfolded).stack.lowest ≡ codes "INSERT a" ∷ []
+the_fold : (fold_entries 0 the_log the_script.commands the_entries (unfolded (policy_of the_script))).stack.lowest ≡ codes "INSERT a" ∷ []
 unfolding class is_begin is_built is_write same_text begins number_behind digits
 the_fold = refl
 
-they_meet : EntryPremises Sqlite 0 the_log the_script.commands the_entries
+they_meet : EntryPremises Sqlite (policy_of the_script) 0 the_log the_script.commands the_entries
 unfolding class is_begin is_built is_write same_text begins number_behind digits
-they_meet = lawful_premises Sqlite 0 the_log the_script.commands the_entries (Idle (codes "INSERT a" ∷ [])) refl refl tt
+they_meet = lawful_premises Sqlite (policy_of the_script) 0 the_log the_script.commands the_entries (Idle (codes "INSERT a" ∷ [])) refl refl tt

@@ -1,8 +1,7 @@
 -- A deed on a connection is one call more in its history.
-use Rattle.std.proofs.Common.{◌≡◌, ◌≢◌, ℕ, ◌+◌, ◌<◌, ◌≤◌, List, [], ◌∷◌, ◌++◌, length, length-append, length-set, Option, Some, None, refl, sym, ap, subst, ◌∙◌, arith, inl, inr}
+use Rattle.std.proofs.Common.{◌≡◌, ℕ, zero, suc, ◌+◌, List, [], ◌∷◌, ◌++◌, length, length-append, Option, Some, None, refl, sym, ap, subst, ◌∙◌, arith, inl, inr}
 use Rattle.std.specs.Prelude.{slice_set}
 use Rattle.std.specs.Option.{option_map}
-use Rattle.std.proofs.lemmas.Bool.{cases_eq}
 use Rattle.conn_model.specs.States.{State}
 use Rattle.conn_model.specs.declared.item.Dialect.{Dialect}
 use Rattle.conn_manager.specs.Manages.{Done}
@@ -15,152 +14,178 @@ use Rattle.conn_script.specs.declared.request.Verb.{Verb}
 use Rattle.conn_script.specs.declared.query.Declared.{Declared}
 use Rattle.conn_model.specs.Caches.{Register}
 use Rattle.conn_reading.specs.Answered.{ServerLogs, Progress, Taken, taken, with_left, seat_after, taken_on, not_out, reads_on, skip_entry, reads_deed, with_blocks}
-use Rattle.conn_reading.specs.Asking.{Outcome, process_of}
+use Rattle.conn_reading.specs.Asking.{Outcome, Policy, process_of}
 use Rattle.conn_reading.specs.Blocks.{block_on, blocks_after, deed_of}
-use Rattle.conn_reading.specs.Histories.{Step, step_items, StartsSetUp}
+use Rattle.conn_reading.specs.Histories.{Operation, Step, step_items, StartsSetUp}
 use Rattle.conn_reading.specs.Owning.{names_of}
 use Rattle.conn_reading.specs.Reading.{Read, read}
-use Rattle.conn_reading.specs.Seats.{Seat, entry_on, at_number}
+use Rattle.conn_reading.specs.Seats.{Seat, make_entry, entry_without, at_number}
 use Rattle.conn_reading.specs.Sessions.{SendsPlain, IsClean}
+use Rattle.conn_reading.specs.declared.blocks.Block.{Block}
 use Rattle.conn_reading.specs.declared.deed.Deed.{Deed}
-use Rattle.conn_reading.proofs.ByNumber.{one_there, at_within, at-set, at-set_other}
+use Rattle.conn_reading.proofs.ByNumber.{at_within}
 use Rattle.conn_reading.proofs.Deeds.{operation_of, IsPlainDeed, deed_plain, verb_clean, DeedReads, deed_reads}
-use Rattle.conn_reading.proofs.EachSeat.{held, count, each_other}
+use Rattle.conn_reading.proofs.EachSeat.{held}
 use Rattle.conn_reading.proofs.KeysKept.{HoldsKey, holds_read}
 use Rattle.conn_reading.proofs.Rising.{RisesTo}
-use Rattle.conn_reading.proofs.SessionCalls.{CallReads, with_call, call_tracked, call_apart, call_registers, call_other, call_seat, call_ends, call_says}
-use Rattle.conn_reading.proofs.SessionKept.{IsOf, Tracks, SeatOf, IsAtNumber, Keeps, ProgressKeeps, EntrySays, DeedKeepsKeys, KeepsKeys, TakenKeeps, says_nothing, says_still}
+use Rattle.conn_reading.proofs.SessionCalls.{CallReads, FoldsAs, with_call, call_registers, call_seat, call_ends, call_says}
+use Rattle.conn_reading.proofs.SessionKept.{IsOf, Tracks, SeatOf, IsAtNumber, Keeps, ProgressKeeps, EndsWith, IsAt, Deeds, deed_on, EntrySays, IfShown, DeedKeepsKeys, KeepsKeys, TakenKeeps, says_nothing, says_still}
+use Rattle.conn_reading.proofs.SessionPlaces.{IsAway, Lifted, taken_out, handed_keeps, moved_keeps}
 use Rattle.conn_reading.proofs.Tracks.{set_up-last}
 
--- ---- a deed on a connection that is there
+-- ---- a deed on a connection that is as its history leaves it
 
--- what is known of it
-record Found (d : Dialect) (left : ServerLogs) (tracks : Tracks) (queries : List Declared) (n : ℕ) (deed : Deed) (out : List (Option Seat)) (seat : Seat) (r : Read Outcome) : Type 0 where
-  pub there : at_number n out ≡ Some seat
-  pub numbered : seat.number ≡ n
-  pub is : SeatOf tracks seat
-  pub reads : DeedReads d (tracks seat.number).state (tracks seat.number).status queries seat.cache deed (left seat.number) r
-
-find : (d : Dialect) (logs left : ServerLogs) (tracks : Tracks) (p : Progress) (n : ℕ) (deed : Deed) (seat : Seat) (r : Read Outcome) → IsOf d p → ProgressKeeps d logs left tracks p → at_number n p.context.out ≡ Some seat
-    → read p.dialect p.armed seat.state (process_of p.dialect p.queries seat.status seat.cache deed) (left seat.number) ≡ Some r → Found d left tracks p.queries n deed p.context.out seat r
-find d logs left tracks p n deed seat r is_of h there is =
-    let here : IsAtNumber tracks n seat = h.in_out n seat there in
+-- what was read for it
+pub seat_reads : (d : Dialect) (policy : Policy) (left : ServerLogs) (tracks : Tracks) (p : Progress) (deed : Deed) (seat : Seat) (r : Read Outcome) → IsOf d policy p → SeatOf tracks seat
+    → read p.dialect p.armed seat.state (process_of p.dialect p.queries seat.status seat.cache deed) (left seat.number) ≡ Some r
+    → DeedReads d (tracks seat.number).state (tracks seat.number).status p.queries seat.cache deed (left seat.number) r
+seat_reads d policy left tracks p deed seat r is_of here is =
     let reads : DeedReads p.dialect seat.state seat.status p.queries seat.cache deed (left seat.number) r = deed_reads p.dialect p.armed seat.state seat.status p.queries seat.cache deed (left seat.number) r is in
-    record {
-      there = there;
-      numbered = here.0;
-      is = here.1;
-      reads = subst (λ (x : Dialect). DeedReads x (tracks seat.number).state (tracks seat.number).status p.queries seat.cache deed (left seat.number) r) is_of.0
-          (subst (λ (x : State). DeedReads p.dialect x (tracks seat.number).status p.queries seat.cache deed (left seat.number) r) (sym here.1.state)
-          (subst (λ (x : Status). DeedReads p.dialect seat.state x p.queries seat.cache deed (left seat.number) r) (sym here.1.status) reads));
-    }
+    subst (λ (x : Dialect). DeedReads x (tracks seat.number).state (tracks seat.number).status p.queries seat.cache deed (left seat.number) r) is_of.dialect
+    (subst (λ (x : State). DeedReads p.dialect x (tracks seat.number).status p.queries seat.cache deed (left seat.number) r) (sym here.state)
+    (subst (λ (x : Status). DeedReads p.dialect seat.state x p.queries seat.cache deed (left seat.number) r) (sym here.status) reads))
 
-module _ (d : Dialect) (logs left : ServerLogs) (tracks : Tracks) (p : Progress) (n : ℕ) (deed : Deed) (seat : Seat) (r : Read Outcome) (plain : IsPlainDeed p.queries (Some deed)) (h : ProgressKeeps d logs left tracks p)
-    (f : Found d left tracks p.queries n deed p.context.out seat r) where
-  -- what the call read
-  abbrev done_read : Read Done
-  done_read = record { value = f.reads.answer; state = r.state; left = r.left }
-
+module _ (d : Dialect) (logs left : ServerLogs) (tracks : Tracks) (queries : List Declared) (deed : Deed) (seat : Seat) (r : Read Outcome) (slots : List Seat) (out : List (Option Seat)) (opened : ℕ)
+    (plain : IsPlainDeed queries (Some deed)) (h : Keeps d logs left tracks slots out opened) (is : SeatOf tracks seat) (away : IsAway slots out opened seat.number)
+    (reads : DeedReads d (tracks seat.number).state (tracks seat.number).status queries seat.cache deed (left seat.number) r) where
   abbrev m : ℕ
   m = seat.number
 
-  abbrev out : List (Option Seat)
-  out = p.context.out
+  abbrev operation : Operation
+  operation = operation_of queries seat.cache deed
+
+  -- what the call read
+  abbrev done_read : Read Done
+  done_read = record { value = reads.answer; state = r.state; left = r.left }
 
   abbrev after : Seat
   after = seat_after seat (length (left m)) r
 
-  abbrev call : CallReads d (left m) (tracks m) (operation_of p.queries seat.cache deed) done_read
+  abbrev call : CallReads d (left m) (tracks m) operation done_read
   call = record {
     is = plain seat.cache;
-    used = f.reads.used;
-    all = f.reads.all;
-    each = f.reads.each;
+    used = reads.used;
+    all = reads.all;
+    each = reads.each;
     register = r.value.cache.register;
-    names = subst (λ (x : Register). RisesTo x.counter (names_of f.reads.used) r.value.cache.register.counter) (sym f.is.register) f.reads.owns.names;
+    names = subst (λ (x : Register). RisesTo x.counter (names_of reads.used) r.value.cache.register.counter) (sym is.register) reads.owns.names;
   }
 
-  abbrev moved_tracks : Tracks
-  moved_tracks = with_call d logs left tracks m (operation_of p.queries seat.cache deed) done_read h.tracked call
+  abbrev pub deed_tracks : Tracks
+  deed_tracks = with_call d logs left tracks m operation done_read h.tracked call
 
-  count_read : after.mark ≡ length (step_items (tracks m).steps) + length f.reads.used
-  count_read = omega (arith, f.is.mark, ap length f.reads.all, length-append f.reads.used r.left)
+  count_read : after.mark ≡ length (step_items (tracks m).steps) + length reads.used
+  count_read = omega (arith, is.mark, ap length reads.all, length-append reads.used r.left)
 
   -- what was done, after those that stand in its history
   abbrev last : Step
-  last = record { operation = operation_of p.queries seat.cache deed; items = f.reads.used; answer = f.reads.answer }
+  last = record { operation = operation; items = reads.used; answer = reads.answer }
 
   sets_up : StartsSetUp ((tracks m).steps ++ last ∷ [])
-  sets_up = set_up-last (tracks m).steps last f.is.sets_up
+  sets_up = set_up-last (tracks m).steps last is.sets_up
 
-  after_is : SeatOf moved_tracks after
-  after_is = call_seat d logs left tracks m (operation_of p.queries seat.cache deed) done_read h.tracked call after refl f.reads.status refl refl count_read sets_up
+  pub deed_seat : SeatOf deed_tracks after
+  deed_seat = call_seat d logs left tracks m operation done_read h.tracked call after refl reads.status refl refl count_read sets_up
 
-  low : m < p.context.opened
-  low = omega (arith, f.numbered, h.places, at_within n out seat f.there)
-
-  there : n < length out
-  there = at_within n out seat f.there
-
-  other : (x : Seat) → x.number ≢ n → SeatOf tracks x → SeatOf moved_tracks x
-  other x apart g = call_other d logs left tracks m (operation_of p.queries seat.cache deed) done_read h.tracked call x (λ e. apart (e ∙ f.numbered)) g
-
-  none_held : count n (held p.context.slots) ≡ 0
-  none_held = omega (arith, h.once n, ap one_there f.there)
-
-  out_at : (k : ℕ) (x : Seat) → at_number k (slice_set out n (Some after)) ≡ Some x → IsAtNumber moved_tracks k x
-  out_at k x e = elim (cases_eq k n) [
-    | inl same ↦ (let is : after ≡ x = cc (sym (at-set n out (Some after) there) ∙ subst (λ (j : ℕ). at_number j (slice_set out n (Some after)) ≡ Some x) same e) in
-        subst (λ (y : Seat). IsAtNumber moved_tracks k y) is (f.numbered ∙ sym same, after_is))
-    | inr apart ↦ (let before : IsAtNumber tracks k x = h.in_out k x (sym (at-set_other k n out (Some after) apart) ∙ e) in (before.0, other x (λ g. apart (sym before.0 ∙ g)) before.1))
-  ]
-
-  out_once : (k : ℕ) → count k (held p.context.slots) + one_there (at_number k (slice_set out n (Some after))) ≤ 1
-  out_once k = elim (cases_eq k n) [
-    | inl same ↦ subst (λ (j : ℕ). count j (held p.context.slots) + one_there (at_number j (slice_set out n (Some after))) ≤ 1) (sym same) (omega (arith, none_held, ap one_there (at-set n out (Some after) there)))
-    | inr apart ↦ omega (arith, h.once k, ap one_there (at-set_other k n out (Some after) apart))
-  ]
-
-  on_keeps : Keeps d logs (with_left left m r.left) moved_tracks (held p.context.slots) (slice_set out n (Some after)) p.context.opened
-  on_keeps = record {
-    tracked = call_tracked d logs left tracks m (operation_of p.queries seat.cache deed) done_read h.tracked call;
-    unopened = λ k l. call_apart d logs left tracks m (operation_of p.queries seat.cache deed) done_read h.tracked call k (λ e. absurd (omega (arith, low, l, e))) ∙ h.unopened k l;
-    in_slots = each_other (SeatOf tracks) (SeatOf moved_tracks) n (held p.context.slots) other none_held h.in_slots;
-    free = h.free;
-    places = length-set out n (Some after) ∙ h.places;
-    in_out = out_at;
-    once = out_once;
-    none = h.none;
-  }
+  pub deed_moves : Keeps d logs (with_left left m r.left) deed_tracks slots out opened
+  deed_moves = moved_keeps d logs left tracks slots out opened m operation done_read h away call
 
   -- the deed keeps keys
   keeps_keys : DeedKeepsKeys (Some deed) (tracks m).register r.value.cache.register
   keeps_keys key keeps holds =
-      let here : HoldsKey key seat.cache.register = subst (HoldsKey key) f.is.register holds in
-      subst (HoldsKey key) (sym f.reads.owns.register) (holds_read key d p.queries deed f.reads.used seat.cache.register keeps here)
+      let here : HoldsKey key seat.cache.register = subst (HoldsKey key) is.register holds in
+      subst (HoldsKey key) (sym reads.owns.register) (holds_read key d queries deed reads.used seat.cache.register keeps here)
 
-  on_registers : (line : ℕ) (word : Word) (k : ℕ) → KeepsKeys (entry_on line word r.value.reply after) (Some deed) k (tracks k).register (moved_tracks k).register
-  on_registers line word k = elim (call_registers d logs left tracks m (operation_of p.queries seat.cache deed) done_read h.tracked call (DeedKeepsKeys (Some deed)) keeps_keys k) [
+  pub deed_registers : (deeds : Deeds) (line : ℕ) (word : Word) (reply : Reply) (status : Option Status) → deed_on deeds (tracks m) ≡ Some deed → (k : ℕ)
+      → KeepsKeys (make_entry line word (Some m) reply status (Some after.mark)) (deed_on deeds (tracks k)) k (tracks k).register (deed_tracks k).register
+  deed_registers deeds line word reply status this k = elim (call_registers d logs left tracks m operation done_read h.tracked call (DeedKeepsKeys (Some deed)) keeps_keys k) [
     | inl stays ↦ inl stays
-    | inr moves ↦ inr (ap (λ (j : ℕ). Some j) moves.0, refl, moves.1)
+    | inr moves ↦ inr (ap (λ (j : ℕ). Some j) moves.0, refl, subst (λ (o : Option Deed). DeedKeepsKeys o (tracks k).register (deed_tracks k).register) (sym (subst (λ (j : ℕ). deed_on deeds (tracks j) ≡ Some deed) moves.0 this)) moves.1)
   ]
 
-  on_says : (line : ℕ) (word : Word) → ((reply : Reply) (status : Option Status) → IsClean word reply status) → EntrySays d logs tracks moved_tracks p.context.opened p.context.blocks (Some deed) (entry_on line word r.value.reply after)
-  on_says line word clean =
-      call_says d logs left tracks m (operation_of p.queries seat.cache deed) done_read h.tracked call p.context.opened p.context.blocks (Some deed) line word r.value.reply (Some r.value.status) after.mark low
-      (call_ends d logs left tracks m (operation_of p.queries seat.cache deed) done_read h.tracked call r.value.status after.mark f.reads.status count_read sets_up)
-      (clean r.value.reply (Some r.value.status)) (record { stack = f.reads.stack; live = f.reads.live }) count_read
+  -- the entry, where it shows the deed's reply, or why the connection was closed
+  pub deed_says : (policy : Policy) (blocks : List Block) (deeds : Deeds) (line : ℕ) (word : Word) (reply : Reply) (status : Option Status) → deed_on deeds (tracks m) ≡ Some deed → FoldsAs (Some deed) reply operation reads.answer → IfShown after.status status
+      → IsClean word reply status → EntrySays d logs policy tracks deed_tracks opened blocks deeds (make_entry line word (Some m) reply status (Some after.mark))
+  deed_says policy blocks deeds line word reply status this f shown clean =
+      call_says d logs left tracks m operation done_read h.tracked call policy opened blocks deeds line word reply status after.mark away.low (at status shown) clean
+      (subst (λ (o : Option Deed). FoldsAs o reply operation reads.answer) (sym this) f) count_read
+    where
+      at : (o : Option Status) → IfShown after.status o → IsAt d logs deed_tracks (Some m) o (Some after.mark)
+      at None g = tt
+      at (Some S) g = subst (λ (x : Status). EndsWith d (logs m) x after.mark (deed_tracks m)) (sym g) (call_ends d logs left tracks m operation done_read h.tracked call r.value.status after.mark reads.status count_read sets_up)
 
-module _ (d : Dialect) (logs left : ServerLogs) (tracks : Tracks) (p : Progress) (line n : ℕ) (word : Word) (clean : (reply : Reply) (status : Option Status) → IsClean word reply status) (is_of : IsOf d p) (h : ProgressKeeps d logs left tracks p) where
+  pub own_reply : FoldsAs (Some deed) r.value.reply operation reads.answer
+  own_reply = record { stack = reads.stack; live = reads.live }
+
+-- ---- a command on a connection
+
+slice_set_twice : {A : Type 0} (xs : List A) (n : ℕ) (x y : A) → slice_set (slice_set xs n x) n y ≡ slice_set xs n y
+slice_set_twice [] n x y = refl
+slice_set_twice (z ∷ xs) zero x y = refl
+slice_set_twice {A = A} (z ∷ xs) (suc n) x y = ap (λ (l : List A). z ∷ l) (slice_set_twice xs n x y)
+
+module _ (d : Dialect) (logs left : ServerLogs) (policy : Policy) (tracks : Tracks) (p : Progress) (line n : ℕ) (word : Word) (clean : (reply : Reply) (status : Option Status) → IsClean word reply status) (is_of : IsOf d policy p) (h : ProgressKeeps d logs left tracks p) where
   abbrev Took : Option Deed → Taken → Type 0
-  Took deed t = TakenKeeps d logs tracks p.context.opened deed p.context.blocks p.context.blocks t
+  Took deed t = TakenKeeps d logs policy tracks p.context.opened (λ b. deed) p.context.blocks p.context.blocks t
+
+  -- one that isn't out
+  not_out_keeps : (deed : Option Deed) (reply : Reply) → Took deed (taken (entry_without line word (Some n) reply) p left)
+  not_out_keeps deed reply = record {
+    tracks = tracks;
+    progress = h;
+    is_of = is_of;
+    grows = omega arith;
+    open_blocks = refl;
+    registers = λ k. inl refl;
+    entry = says_nothing d logs policy tracks p.context.opened p.context.blocks (λ b. deed) line word (Some n) reply (clean reply None);
+  }
+
+  -- one that is out, and stays so
+  module _ (deed : Deed) (seat : Seat) (r : Read Outcome) (plain : IsPlainDeed p.queries (Some deed)) (there : at_number n p.context.out ≡ Some seat)
+      (is : read p.dialect p.armed seat.state (process_of p.dialect p.queries seat.status seat.cache deed) (left seat.number) ≡ Some r) where
+    here : IsAtNumber tracks n seat
+    here = h.in_out n seat there
+
+    reads : DeedReads d (tracks seat.number).state (tracks seat.number).status p.queries seat.cache deed (left seat.number) r
+    reads = seat_reads d policy left tracks p deed seat r is_of here.1 is
+
+    abbrev away_out : List (Option Seat)
+    away_out = slice_set p.context.out n None
+
+    lift : Lifted d logs left tracks (held p.context.slots) away_out p.context.opened seat
+    lift = taken_out d logs left tracks (held p.context.slots) p.context.out p.context.opened n seat there h
+
+    abbrev moved : Tracks
+    moved = deed_tracks d logs left tracks p.queries deed seat r (held p.context.slots) away_out p.context.opened plain lift.keeps lift.is lift.away reads
+
+    abbrev after_seat : Seat
+    after_seat = seat_after seat (length (left seat.number)) r
+
+    out_keeps : Keeps d logs (with_left left seat.number r.left) moved (held p.context.slots) (slice_set p.context.out n (Some after_seat)) p.context.opened
+    out_keeps =
+        let keeps = handed_keeps d logs (with_left left seat.number r.left) moved (held p.context.slots) away_out p.context.opened after_seat
+        (deed_moves d logs left tracks p.queries deed seat r (held p.context.slots) away_out p.context.opened plain lift.keeps lift.is lift.away reads)
+        (deed_seat d logs left tracks p.queries deed seat r (held p.context.slots) away_out p.context.opened plain lift.keeps lift.is lift.away reads) lift.away in
+        subst (λ (l : List (Option Seat)). Keeps d logs (with_left left seat.number r.left) moved (held p.context.slots) l p.context.opened)
+        (ap (λ (k : ℕ). slice_set away_out k (Some after_seat)) here.0 ∙ slice_set_twice p.context.out n None (Some after_seat)) keeps
+
+    on_keeps : Took (Some deed) (taken_on p left line word n seat r)
+    on_keeps = record {
+      tracks = moved;
+      progress = out_keeps;
+      is_of = is_of;
+      grows = omega arith;
+      open_blocks = refl;
+      registers = deed_registers d logs left tracks p.queries deed seat r (held p.context.slots) away_out p.context.opened plain lift.keeps lift.is lift.away reads (λ b. Some deed) line word r.value.reply (Some r.value.status) refl;
+      entry = deed_says d logs left tracks p.queries deed seat r (held p.context.slots) away_out p.context.opened plain lift.keeps lift.is lift.away reads policy p.context.blocks (λ b. Some deed) line word r.value.reply (Some r.value.status) refl
+          (own_reply d logs left tracks p.queries deed seat r (held p.context.slots) away_out p.context.opened plain lift.keeps lift.is lift.away reads) refl (clean r.value.reply (Some r.value.status));
+    }
 
   -- it is read
   on_keeps_all : (deed : Deed) (t : Taken) (o : Option Seat) → IsPlainDeed p.queries (Some deed) → at_number n p.context.out ≡ o → reads_on p left line word deed n o ≡ Some t → Took (Some deed) t
   on_keeps_all deed t None plain there is =
       let e : not_out p left line word n ≡ t = cc in
-      subst (Took (Some deed)) e
-      (record { tracks = tracks; progress = h; is_of = is_of; grows = omega arith; open_blocks = refl; registers = λ k. inl refl; entry = says_nothing d logs tracks p.context.opened p.context.blocks (Some deed) line word (Some n) replies.NotOut (clean replies.NotOut None) })
+      subst (Took (Some deed)) e (not_out_keeps (Some deed) replies.NotOut)
   on_keeps_all deed t (Some seat) plain there is =
       by_read (read p.dialect p.armed seat.state (process_of p.dialect p.queries seat.status seat.cache deed) (left seat.number)) refl is
     where
@@ -168,28 +193,11 @@ module _ (d : Dialect) (logs left : ServerLogs) (tracks : Tracks) (p : Progress)
       by_read None e i = absurd (cc)
       by_read (Some r) e i =
           let same : taken_on p left line word n seat r ≡ t = cc in
-          let f : Found d left tracks p.queries n deed p.context.out seat r = find d logs left tracks p n deed seat r is_of h there e in
-          subst (Took (Some deed)) same (record {
-            tracks = moved_tracks d logs left tracks p n deed seat r plain h f;
-            progress = on_keeps d logs left tracks p n deed seat r plain h f;
-            is_of = is_of;
-            grows = omega arith;
-            open_blocks = refl;
-            registers = on_registers d logs left tracks p n deed seat r plain h f line word;
-            entry = on_says d logs left tracks p n deed seat r plain h f line word clean;
-          })
+          subst (Took (Some deed)) same (on_keeps deed seat r plain there e)
 
   -- it is skipped
   skip_keeps : (o : Option Seat) → at_number n p.context.out ≡ o → Took None (taken (skip_entry line word n o) p left)
-  skip_keeps None there = record {
-    tracks = tracks;
-    progress = h;
-    is_of = is_of;
-    grows = omega arith;
-    open_blocks = refl;
-    registers = λ k. inl refl;
-    entry = says_nothing d logs tracks p.context.opened p.context.blocks None line word (Some n) replies.Skipped (clean replies.Skipped None);
-  }
+  skip_keeps None there = not_out_keeps None replies.Skipped
   skip_keeps (Some seat) there =
       let here : IsAtNumber tracks n seat = h.in_out n seat there in
       record {
@@ -199,7 +207,7 @@ module _ (d : Dialect) (logs left : ServerLogs) (tracks : Tracks) (p : Progress)
         grows = omega arith;
         open_blocks = refl;
         registers = λ k. inl refl;
-        entry = says_still d logs left tracks p.context.opened p.context.blocks line word replies.Skipped seat h.tracked here.1 (clean replies.Skipped (Some seat.status)) (omega (arith, here.0, h.places, at_within n p.context.out seat there));
+        entry = says_still d logs left policy tracks p.context.opened p.context.blocks (λ b. None) line word replies.Skipped (Some seat.status) seat h.tracked here.1 refl refl (clean replies.Skipped (Some seat.status)) (omega (arith, here.0, h.places, at_within n p.context.out seat there));
       }
 
   deed_keeps : (deed : Option Deed) (t : Taken) (o : Option Seat) → IsPlainDeed p.queries deed → at_number n p.context.out ≡ o → reads_deed p left line word deed n o ≡ Some t → Took deed t
@@ -209,20 +217,21 @@ module _ (d : Dialect) (logs left : ServerLogs) (tracks : Tracks) (p : Progress)
   deed_keeps (Some deed) t o plain there is = on_keeps_all deed t o plain there is
 
 -- a command on a connection, whose reply tells the blocks
-pub verb_keeps : (d : Dialect) (logs left : ServerLogs) (tracks : Tracks) (p : Progress) (line n : ℕ) (verb : Verb) (t : Taken) → SendsPlain verb → IsOf d p → ProgressKeeps d logs left tracks p
+pub verb_keeps : (d : Dialect) (logs left : ServerLogs) (policy : Policy) (tracks : Tracks) (p : Progress) (line n : ℕ) (verb : Verb) (t : Taken) → SendsPlain verb → IsOf d policy p → ProgressKeeps d logs left tracks p
     → (let deed : Option Deed = deed_of (block_on n p.context.blocks) verb in option_map (with_blocks n verb) (reads_deed p left line (verb_word verb) deed n (at_number n p.context.out)) ≡ Some t
-    → TakenKeeps d logs tracks p.context.opened deed p.context.blocks (blocks_after n verb t.entry.reply p.context.blocks) t)
-verb_keeps d logs left tracks p line n verb t plain is_of h is =
+    → TakenKeeps d logs policy tracks p.context.opened (λ b. deed) p.context.blocks (blocks_after n verb t.entry.reply p.context.blocks) t)
+verb_keeps d logs left policy tracks p line n verb t plain is_of h is =
     by_read (reads_deed p left line (verb_word verb) deed n (at_number n p.context.out)) is
-    (λ u e. deed_keeps d logs left tracks p line n (verb_word verb) (verb_clean verb) is_of h deed u (at_number n p.context.out) (deed_plain p.queries is_of.1 (block_on n p.context.blocks) verb plain) refl e) refl
+    (λ u e. deed_keeps d logs left policy tracks p line n (verb_word verb) (verb_clean verb) is_of h deed u (at_number n p.context.out) (deed_plain p.queries is_of.plain (block_on n p.context.blocks) verb plain) refl e) refl
   where
     deed : Option Deed
     deed = deed_of (block_on n p.context.blocks) verb
 
     After : Taken → Type 0
-    After x = TakenKeeps d logs tracks p.context.opened deed p.context.blocks (blocks_after n verb x.entry.reply p.context.blocks) x
+    After x = TakenKeeps d logs policy tracks p.context.opened (λ b. deed) p.context.blocks (blocks_after n verb x.entry.reply p.context.blocks) x
 
-    by_read : (o : Option Taken) → option_map (with_blocks n verb) o ≡ Some t → ((u : Taken) → reads_deed p left line (verb_word verb) deed n (at_number n p.context.out) ≡ Some u → TakenKeeps d logs tracks p.context.opened deed p.context.blocks p.context.blocks u)
+    by_read : (o : Option Taken) → option_map (with_blocks n verb) o ≡ Some t
+        → ((u : Taken) → reads_deed p left line (verb_word verb) deed n (at_number n p.context.out) ≡ Some u → TakenKeeps d logs policy tracks p.context.opened (λ b. deed) p.context.blocks p.context.blocks u)
         → reads_deed p left line (verb_word verb) deed n (at_number n p.context.out) ≡ o → After t
     by_read None i f e = absurd (cc)
     by_read (Some u) i f e =

@@ -1,62 +1,93 @@
--- An attempt to open a connection: its setup is the first call in its history.
-use Rattle.std.proofs.Common.{◌≡◌, ◌≢◌, ℕ, ℤ, ◌+◌, ◌-◌, ◌≤◌, List, [], ◌∷◌, ◌++◌, append-nil, length, length-append, Option, Some, None, Ok, Err, refl, sym, ap, subst, ◌∙◌, arith, inl, inr}
+-- An attempt to open a connection: its setup is the first call in its history, and what it is asked then the second.
+use Rattle.std.proofs.Common.{◌≡◌, ℕ, ℤ, ◌+◌, ◌-◌, ◌≤◌, Bool, true, false, List, [], ◌∷◌, ◌++◌, length, length-append, Option, Some, None, Ok, Err, refl, sym, ap, subst, ◌∙◌, arith, inl, inr}
 use Rattle.std.specs.Option.{option_map}
-use Rattle.std.proofs.lemmas.Bool.{cases_eq}
+use Rattle.std.proofs.lemmas.Option.{option_and_then_some}
 use Rattle.conn_result.specs.declared.error.ConnectionError.{ConnectionError}
 use Rattle.conn_result.specs.declared.error.ConnectionError.TheVariants.{BadConnection, CouldntSetupConfiguration}
+use Rattle.conn_result.specs.declared.pool.Error.{Error as PoolError}
+use Rattle.conn_result.specs.declared.pool.Error.TheVariants as pooling
 use Rattle.conn_model.specs.States.{Idle}
 use Rattle.conn_model.specs.declared.item.Dialect.{Dialect}
 use Rattle.conn_manager.specs.Manages.{Done, Reply as Answer}
 use Rattle.conn_manager.specs.Setups.{setup_process}
-use Rattle.conn_manager.specs.Statuses.{no_depth, is_broken}
-use Rattle.conn_report.specs.declared.entry.Reply.{Reply}
+use Rattle.conn_manager.specs.Statuses.{no_depth}
 use Rattle.conn_report.specs.declared.entry.Reply.TheVariants as replies
+use Rattle.conn_script.specs.declared.command.Customizer.{Customizer}
+use Rattle.conn_script.specs.declared.command.Customizer.TheVariants as customizers
 use Rattle.conn_script.specs.declared.command.Word.TheVariants as words
-use Rattle.conn_model.specs.Caches.{nothing_known}
-use Rattle.conn_reading.specs.Answered.{ServerLogs, Progress, Taken, with_left, new_seat, attempt_refused, taken_opened, taken_setup, url_refused, refusal_at, reads_attempt, reads_opening}
-use Rattle.conn_reading.specs.Folds.{Stack, Sends, after_reply}
+use Rattle.conn_model.specs.Caches.{Register, nothing_known}
+use Rattle.conn_reading.specs.Answered.{ServerLogs, Progress, Taken, new_seat, readied, reads_attempt, reads_opened, reads_opening, reads_ready, reads_set_up, refusal_at, refusal_of, seat_after, taken_ready, unopened, attempted, with_left, with_opened}
+use Rattle.conn_reading.specs.Asking.{Outcome, Policy, customizer_deed, get_deed, process_of}
+use Rattle.conn_reading.specs.Folds.{AllKeepLive, alone}
 use Rattle.conn_reading.specs.Histories.{Setup, operation_process, Step, step_items, StartsSetUp}
 use Rattle.conn_reading.specs.Owning.{names_of}
 use Rattle.conn_reading.specs.Reading.{Read, read, Reads}
-use Rattle.conn_reading.specs.Seats.{Seat, at_number}
-use Rattle.conn_reading.proofs.ByNumber.{one_there, at-last, at-last_other}
-use Rattle.conn_reading.proofs.EachSeat.{held, count, held-append, each_other}
+use Rattle.conn_reading.specs.Seats.{Seat}
+use Rattle.conn_reading.specs.Sessions.{between}
+use Rattle.conn_reading.specs.declared.deed.Deed.{Deed}
+use Rattle.conn_reading.proofs.Deeds.{customizer_plain}
+use Rattle.conn_reading.proofs.EachSeat.{held}
 use Rattle.conn_reading.proofs.ItemsRead.{ReadsFront, reads_front}
-use Rattle.conn_reading.proofs.Opening.{set_up_is, accepted_setup, setup_unnamed}
+use Rattle.conn_reading.proofs.Opening.{set_up_is, setup_unnamed}
 use Rattle.conn_reading.proofs.Rising.{RisesTo}
-use Rattle.conn_reading.proofs.SessionCalls.{CallReads, FoldsAs, with_call, call_tracked, call_apart, call_registers, call_other, call_seat, call_ends, call_says}
-use Rattle.conn_reading.proofs.SessionKept.{IsOf, Tracks, SeatOf, IsAtNumber, Keeps, TakenKeeps, says_nothing}
-use Rattle.conn_reading.proofs.Tracks.{Track, no_track}
+use Rattle.conn_reading.proofs.SessionCalls.{CallReads, FoldsAs, with_call, track_same, call_apart, call_registers, call_seat, call_says}
+use Rattle.conn_reading.proofs.SessionKept.{DeedKeepsKeys, IsOf, Keeps, KeepsKeys, SeatOf, TakenKeeps, Tracks, deed_on, says_nothing}
+use Rattle.conn_reading.proofs.SessionMore.{between_more, says_more, sends_still}
+use Rattle.conn_reading.proofs.SessionPlaces.{IsAway, added_away, added_keeps, emptied_keeps, moved_keeps}
+use Rattle.conn_reading.proofs.SessionReadies.{AsksWell, ready_keeps}
+use Rattle.conn_reading.proofs.Tracks.{Track, folded, moved, no_track}
 
--- a slot that goes to the back empty holds no connection
-held-empty : (slots : List (Option Seat)) → held slots ≡ held (slots ++ None ∷ [])
-held-empty slots = sym (held-append slots (None ∷ []) ∙ append-nil (held slots))
+-- ---- the entry of a connection shows its number, and a mark past what it had
 
--- a setup does nothing to the stack, and an entry of the pool has no deed
-set_up_folds : (reply : Reply) (a : Done) → FoldsAs None reply Setup a
-set_up_folds reply a = record { stack = λ k. stays a.reply k; live = λ k l. tt }
+pub record IsShown (seat : Seat) (t : Taken) : Type 0 where
+  pub connection : t.entry.connection ≡ Some seat.number
+  pub count : ℕ
+  pub mark : t.entry.mark ≡ Some count
+  pub past : seat.mark ≤ count
+
+readied_shown : (p : Progress) (logs : ServerLogs) (line : ℕ) (seat after : Seat) (e : Option PoolError) → after.number ≡ seat.number → seat.mark ≤ after.mark → IsShown seat (readied p logs line after e)
+readied_shown p logs line seat after None same past = record { connection = ap (λ (k : ℕ). Some k) same; count = after.mark; mark = refl; past = past }
+readied_shown p logs line seat after (Some e) same past = record { connection = ap (λ (k : ℕ). Some k) same; count = after.mark; mark = refl; past = past }
+
+ready_shown : (p : Progress) (logs : ServerLogs) (line : ℕ) (fresh : Bool) (deed : Option Deed) (seat : Seat) (t : Taken) → reads_ready p logs line fresh deed seat ≡ Some t → IsShown seat t
+ready_shown p logs line fresh None seat t is =
+    let same : readied p logs line seat (refusal_of fresh seat replies.Ok) ≡ t = cc in
+    subst (IsShown seat) same (readied_shown p logs line seat seat (refusal_of fresh seat replies.Ok) refl (omega arith))
+ready_shown p logs line fresh (Some deed) seat t is = by_read (read p.dialect p.armed seat.state (process_of p.dialect p.queries seat.status seat.cache deed) (logs seat.number)) is
   where
-    stays : (answer : Answer) (k : Stack) → k ≡ after_reply Sends answer k
-    stays (Ok u) k = refl
-    stays (Err e) k = refl
+    by_read : (o : Option (Read Outcome)) → option_map (taken_ready p logs line fresh seat) o ≡ Some t → IsShown seat t
+    by_read None i = absurd (cc)
+    by_read (Some r) i =
+        let same : taken_ready p logs line fresh seat r ≡ t = cc in
+        let after : Seat = seat_after seat (length (logs seat.number)) r in
+        subst (IsShown seat) same (readied_shown p (with_left logs seat.number r.left) line seat after (refusal_of fresh after r.value.reply) refl (omega arith))
 
-one_most : (o : Option Seat) → one_there o ≤ 1
-one_most None = omega arith
-one_most (Some seat) = omega arith
+-- ---- a setup, whatever its entry is
 
--- ---- a server was opened, and its setup was read
+-- it does nothing to the stack where the pool refuses for it
+refused_folds : (deed : Option Deed) (e : ConnectionError) (a : Done) → FoldsAs deed (replies.Pool (pooling.ConnectionError e)) Setup a
+refused_folds None e a = record { stack = λ k. sym (sends_still a.reply k); live = λ k l. tt }
+refused_folds (Some deed) e a = record { stack = λ k. sym (sends_still a.reply k); live = λ k l. tt }
 
-module _ (d : Dialect) (logs left : ServerLogs) (tracks : Tracks) (p : Progress) (line : ℕ) (rest : List (Option Seat)) (is_of : IsOf d p) (h : Keeps d logs left tracks (held rest) p.context.out p.context.opened) (r : Read Done)
+customizer_well : (z : Customizer) → AsksWell true (customizer_deed z)
+customizer_well customizers.Nop = tt
+customizer_well customizers.Test = tt
+customizer_well customizers.Begin = tt
+
+module _ (d : Dialect) (logs left : ServerLogs) (policy : Policy) (tracks : Tracks) (p : Progress) (line : ℕ) (is_of : IsOf d policy p) (h : Keeps d logs left tracks (held p.context.slots) p.context.out p.context.opened) (r : Read Done)
     (front : ReadsFront d (Idle []) (setup_process d no_depth) (left p.context.opened) r) where
   -- the number of the new server
   abbrev n : ℕ
   n = p.context.opened
 
   abbrev out : List (Option Seat)
-  out = p.context.out
+  out = p.context.out ++ None ∷ []
 
   abbrev seat : Seat
   seat = new_seat n (length (left n) - length r.left) r
+
+  abbrev rest : ServerLogs
+  rest = with_left left n r.left
 
   first : tracks n ≡ no_track
   first = h.unopened n (omega arith)
@@ -75,8 +106,8 @@ module _ (d : Dialect) (logs left : ServerLogs) (tracks : Tracks) (p : Progress)
     names = subst (λ (t : Track). RisesTo t.register.counter (names_of front.used) 0) (sym first) (subst (λ (ns : List ℕ). RisesTo 0 ns 0) (sym unnamed) (omega arith));
   }
 
-  abbrev after : Tracks
-  after = with_call d logs left tracks n Setup r h.tracked call
+  abbrev one : Tracks
+  one = with_call d logs left tracks n Setup r h.tracked call
 
   count_read : seat.mark ≡ length (step_items (tracks n).steps) + length front.used
   count_read = omega (arith, ap (λ (t : Track). length (step_items t.steps)) first, ap length front.all, length-append front.used r.left)
@@ -87,113 +118,124 @@ module _ (d : Dialect) (logs left : ServerLogs) (tracks : Tracks) (p : Progress)
   sets_up : r.value.reply ≡ Ok tt → StartsSetUp ((tracks n).steps ++ setup ∷ [])
   sets_up ok = subst (λ (t : Track). StartsSetUp (t.steps ++ setup ∷ [])) (sym first) (refl, ok)
 
-  seat_is : r.value.reply ≡ Ok tt → SeatOf after seat
+  seat_is : r.value.reply ≡ Ok tt → SeatOf one seat
   seat_is ok = call_seat d logs left tracks n Setup r h.tracked call seat refl refl refl refl count_read (sets_up ok)
 
-  other : (x : Seat) → x.number ≢ n → SeatOf tracks x → SeatOf after x
-  other x apart g = call_other d logs left tracks n Setup r h.tracked call x apart g
+  added : Keeps d logs left tracks (held p.context.slots) out (n + 1)
+  added = added_keeps d logs left tracks (held p.context.slots) p.context.out n h
 
-  module _ (place : Option Seat) (is : (x : Seat) → place ≡ Some x → IsAtNumber after n x) where
-    last_is : at_number n (out ++ place ∷ []) ≡ place
-    last_is = subst (λ (k : ℕ). at_number k (out ++ place ∷ []) ≡ place) h.places (at-last out place)
+  away : IsAway (held p.context.slots) out (n + 1) n
+  away = added_away d logs left tracks (held p.context.slots) p.context.out n h
 
-    other_is : (k : ℕ) → k ≢ n → at_number k (out ++ place ∷ []) ≡ at_number k out
-    other_is k apart = at-last_other k out place (λ e. apart (e ∙ h.places))
-
-    out_at : (k : ℕ) (x : Seat) → at_number k (out ++ place ∷ []) ≡ Some x → IsAtNumber after k x
-    out_at k x e = elim (cases_eq k n) [
-      | inl same ↦ subst (λ (j : ℕ). IsAtNumber after j x) (sym same) (is x (sym last_is ∙ subst (λ (j : ℕ). at_number j (out ++ place ∷ []) ≡ Some x) same e))
-      | inr apart ↦ (let before : IsAtNumber tracks k x = h.in_out k x (sym (other_is k apart) ∙ e) in (before.0, other x (λ g. apart (sym before.0 ∙ g)) before.1))
-    ]
-
-    one_more : (k : ℕ) → count k (held rest) + one_there (at_number k (out ++ place ∷ [])) ≤ 1
-    one_more k = elim (cases_eq k n) [
-      | inl same ↦ subst (λ (j : ℕ). count j (held rest) + one_there (at_number j (out ++ place ∷ [])) ≤ 1) (sym same) (omega (arith, h.none n (omega arith), ap one_there last_is, one_most place))
-      | inr apart ↦ omega (arith, h.once k, ap one_there (other_is k apart))
-    ]
-
-    -- at the server's place stands its connection, or none
-    opened_keeps : Keeps d logs (with_left left n r.left) after (held rest) (out ++ place ∷ []) (n + 1)
-    opened_keeps = record {
-      tracked = call_tracked d logs left tracks n Setup r h.tracked call;
-      unopened = λ k l. call_apart d logs left tracks n Setup r h.tracked call k (λ e. absurd (omega (arith, l, e))) ∙ h.unopened k (omega (arith, l));
-      in_slots = each_other (SeatOf tracks) (SeatOf after) n (held rest) other (h.none n (omega arith)) h.in_slots;
-      free = h.free;
-      places = omega (arith, h.places, length-append out (place ∷ []));
-      in_out = out_at;
-      once = one_more;
-      none = λ k l. h.none k (omega (arith, l));
-    }
+  set_up_keeps : Keeps d logs rest one (held p.context.slots) out (n + 1)
+  set_up_keeps = moved_keeps d logs left tracks (held p.context.slots) out (n + 1) n Setup r added away call
 
   -- no register changes, as the cache is a new one
-  still : (k : ℕ) → (after k).register ≡ (tracks k).register
+  still : (k : ℕ) → (one k).register ≡ (tracks k).register
   still k = elim (call_registers d logs left tracks n Setup r h.tracked call (λ x y. y ≡ x) (sym (ap (λ (t : Track). t.register) first)) k) [
     | inl stays ↦ stays
     | inr moves ↦ moves.1
   ]
 
+  abbrev Took : Taken → Type 0
+  Took t = TakenKeeps d logs policy tracks n (get_deed policy) p.context.blocks p.context.blocks t
+
+  -- the connection is closed for the error of its setup
+  refused_took : (e : ConnectionError) → Took (readied (with_opened p) rest line seat (Some (pooling.ConnectionError e)))
+  refused_took e = record {
+    tracks = one;
+    progress = emptied_keeps d logs rest one out (n + 1) p.context.slots set_up_keeps;
+    is_of = is_of;
+    grows = omega arith;
+    open_blocks = refl;
+    registers = λ k. inl (still k);
+    entry = call_says d logs left tracks n Setup r h.tracked call policy (n + 1) p.context.blocks (get_deed policy) line words.Get (replies.Pool (pooling.ConnectionError e)) None seat.mark (omega arith) tt tt
+        (refused_folds (deed_on (get_deed policy) (tracks n)) e r.value) count_read;
+  }
+
+  -- what is asked of it comes behind its setup
+  one_is : one n ≡ moved no_track Setup front.used r nothing_known.register
+  one_is = track_same tracks n (moved (tracks n) Setup front.used r nothing_known.register) ∙ ap (λ (t : Track). moved t Setup front.used r nothing_known.register) first
+
+  all_read : logs n ≡ front.used ++ r.left
+  all_read = (h.tracked n).all ∙ ap (λ (t : Track). step_items t.steps ++ left n) first ∙ front.all
+
+  goes_on : (m : ℕ) → seat.mark ≤ m → between (logs n) (folded policy p.context.blocks no_track) m ≡ between (logs n) (folded policy p.context.blocks (one n)) m
+  goes_on m past =
+      let high : length front.used ≤ m = omega (arith, count_read, past) in
+      between_more (logs n) front.used r.left policy p.context.blocks r nothing_known.register m all_read high ∙ ap (λ (t : Track). between (logs n) (folded policy p.context.blocks t) m) (sym one_is)
+
+  live_one : AllKeepLive (one n).steps (alone [])
+  live_one = subst (λ (t : Track). AllKeepLive t.steps (alone [])) (sym one_is) (tt, tt)
+
+  abbrev deed : Option Deed
+  deed = customizer_deed p.policy.customizer
+
+  asks_deed : get_deed policy false ≡ deed
+  asks_deed = ap (λ (x : Policy). customizer_deed x.customizer) (sym is_of.asked)
+
+  asks_here : deed_on (get_deed policy) (tracks n) ≡ deed
+  asks_here = ap (λ (t : Track). deed_on (get_deed policy) t) first ∙ asks_deed
+
+  -- it keeps keys
+  more_registers : (t : Taken) (after : Tracks) → IsShown seat t → ((k : ℕ) → KeepsKeys t.entry deed k (one k).register (after k).register) → (k : ℕ) → KeepsKeys t.entry (deed_on (get_deed policy) (tracks k)) k (tracks k).register (after k).register
+  more_registers t after shown keeps k = elim (keeps k) [
+    | inl stays ↦ inl (stays ∙ still k)
+    | inr moves ↦ (let same : n ≡ k = cc (sym shown.connection ∙ moves.0) in
+        let asked : deed_on (get_deed policy) (tracks k) ≡ deed = subst (λ (j : ℕ). deed_on (get_deed policy) (tracks j) ≡ deed) same asks_here in
+        inr (moves.0, moves.1, subst (λ (o : Option Deed). DeedKeepsKeys o (tracks k).register (after k).register) (sym asked) (subst (λ (x : Register). DeedKeepsKeys deed x (after k).register) (still k) moves.2)))
+  ]
+
   -- by the answer of the setup
-  opened_took : (a : Answer) → r.value.reply ≡ a → TakenKeeps d logs tracks n None p.context.blocks p.context.blocks (taken_opened p (with_left left n r.left) line rest seat a)
-  opened_took (Ok u) ok = record {
-    tracks = after;
-    progress = opened_keeps (Some seat) (λ x e. (let same : seat ≡ x = cc in subst (λ (y : Seat). IsAtNumber after n y) same (refl, seat_is ok)));
-    is_of = is_of;
-    grows = omega arith;
-    open_blocks = refl;
-    registers = λ k. inl (still k);
-    entry = call_says d logs left tracks n Setup r h.tracked call (n + 1) p.context.blocks None line words.Get replies.Ok (Some seat.status) seat.mark (omega arith)
-        (call_ends d logs left tracks n Setup r h.tracked call seat.status seat.mark refl count_read (sets_up ok))
-        (ap is_broken (accepted_setup d front.used r.value r.state front.each ok).0) (set_up_folds replies.Ok r.value) count_read;
-  }
-  opened_took (Err e) refused = record {
-    tracks = after;
-    progress = subst (λ (seats : List Seat). Keeps d logs (with_left left n r.left) after seats (out ++ None ∷ []) (n + 1)) (held-empty rest) (opened_keeps None (λ x e. absurd (cc)));
-    is_of = is_of;
-    grows = omega arith;
-    open_blocks = refl;
-    registers = λ k. inl (still k);
-    entry = call_says d logs left tracks n Setup r h.tracked call (n + 1) p.context.blocks None line words.Get (replies.Pool (CouldntSetupConfiguration e n)) None seat.mark (omega arith) tt tt
-        (set_up_folds (replies.Pool (CouldntSetupConfiguration e n)) r.value) count_read;
-  }
+  opened_took : (a : Answer) (t : Taken) → r.value.reply ≡ a → reads_opened (with_opened p) rest line seat a ≡ Some t → Took t
+  opened_took (Err e) t refused is =
+      let same : readied (with_opened p) rest line seat (Some (pooling.ConnectionError (CouldntSetupConfiguration e n))) ≡ t = cc in
+      subst Took same (refused_took (CouldntSetupConfiguration e n))
+  opened_took (Ok u) t ok is =
+      let asked : TakenKeeps d logs policy one (n + 1) (λ b. deed) p.context.blocks p.context.blocks t =
+      ready_keeps d logs rest policy one (with_opened p) line (λ b. deed) true seat is_of set_up_keeps (seat_is ok) away (λ kept. absurd (cc)) deed t (customizer_well p.policy.customizer) (customizer_plain p.queries is_of.plain p.policy.customizer) refl is in
+      let shown : IsShown seat t = ready_shown (with_opened p) rest line true deed seat t is in
+      record {
+        tracks = asked.tracks;
+        progress = asked.progress;
+        is_of = asked.is_of;
+        grows = omega (arith, asked.grows);
+        open_blocks = asked.open_blocks;
+        registers = more_registers t asked.tracks shown asked.registers;
+        entry = says_more d logs policy tracks one asked.tracks t.progress.context.opened p.context.blocks (get_deed policy) deed t.entry n shown.count shown.connection shown.mark
+            (λ k apart. call_apart d logs left tracks n Setup r h.tracked call k apart) first asks_deed (goes_on shown.count shown.past) live_one asked.entry;
+      }
 
 -- ---- an attempt
 
-attempt_keeps : (d : Dialect) (logs left : ServerLogs) (tracks : Tracks) (p : Progress) (line : ℕ) (rest : List (Option Seat)) (o : Option ℤ) (t : Taken) → IsOf d p → Keeps d logs left tracks (held rest) p.context.out p.context.opened
-    → reads_attempt p left line rest o ≡ Some t → TakenKeeps d logs tracks p.context.opened None p.context.blocks p.context.blocks t
-attempt_keeps d logs left tracks p line rest (Some code) t is_of h is =
-    let same : attempt_refused p left line rest code ≡ t = cc in
-    subst (TakenKeeps d logs tracks p.context.opened None p.context.blocks p.context.blocks) same (record {
-      tracks = tracks;
-      progress = subst (λ (seats : List Seat). Keeps d logs left tracks seats p.context.out p.context.opened) (held-empty rest) h;
-      is_of = is_of;
-      grows = omega arith;
-      open_blocks = refl;
-      registers = λ k. inl refl;
-      entry = says_nothing d logs tracks p.context.opened p.context.blocks None line words.Get None (replies.Pool (BadConnection code)) tt;
-    })
-attempt_keeps d logs left tracks p line rest None t is_of h is = by_read (read p.dialect p.armed (Idle []) (setup_process p.dialect no_depth) (left p.context.opened)) refl is
-  where
-    by_read : (o : Option (Read Done)) → read p.dialect p.armed (Idle []) (setup_process p.dialect no_depth) (left p.context.opened) ≡ o → option_map (taken_setup p left line rest p.context.opened) o ≡ Some t
-        → TakenKeeps d logs tracks p.context.opened None p.context.blocks p.context.blocks t
-    by_read None e i = absurd (cc)
-    by_read (Some r) e i =
-        let same : taken_setup p left line rest p.context.opened r ≡ t = cc in
-        let front : ReadsFront d (Idle []) (setup_process d no_depth) (left p.context.opened) r =
-        subst (λ (x : Dialect). ReadsFront x (Idle []) (setup_process x no_depth) (left p.context.opened) r) is_of.0 (reads_front p.dialect p.armed (Idle []) (setup_process p.dialect no_depth) (left p.context.opened) r e) in
-        subst (TakenKeeps d logs tracks p.context.opened None p.context.blocks p.context.blocks) same (opened_took d logs left tracks p line rest is_of h r front r.value.reply refl)
+module _ (d : Dialect) (logs left : ServerLogs) (policy : Policy) (tracks : Tracks) (p : Progress) (line : ℕ) (is_of : IsOf d policy p) (h : Keeps d logs left tracks (held p.context.slots) p.context.out p.context.opened) where
+  abbrev Opens : Taken → Type 0
+  Opens t = TakenKeeps d logs policy tracks p.context.opened (get_deed policy) p.context.blocks p.context.blocks t
 
--- an attempt, or a URL that is at fault
-pub opening_keeps : (d : Dialect) (logs left : ServerLogs) (tracks : Tracks) (p : Progress) (line : ℕ) (rest : List (Option Seat)) (o : Option ConnectionError) (t : Taken) → IsOf d p → Keeps d logs left tracks (held rest) p.context.out p.context.opened
-    → reads_opening p left line rest o ≡ Some t → TakenKeeps d logs tracks p.context.opened None p.context.blocks p.context.blocks t
-opening_keeps d logs left tracks p line rest None t is_of h is = attempt_keeps d logs left tracks p line rest (refusal_at p) t is_of h is
-opening_keeps d logs left tracks p line rest (Some fault) t is_of h is =
-    let same : url_refused p left line rest fault ≡ t = cc in
-    subst (TakenKeeps d logs tracks p.context.opened None p.context.blocks p.context.blocks) same (record {
-      tracks = tracks;
-      progress = subst (λ (seats : List Seat). Keeps d logs left tracks seats p.context.out p.context.opened) (held-empty rest) h;
-      is_of = is_of;
-      grows = omega arith;
-      open_blocks = refl;
-      registers = λ k. inl refl;
-      entry = says_nothing d logs tracks p.context.opened p.context.blocks None line words.Get None (replies.Pool fault) tt;
-    })
+  unopened_keeps : (attempts : ℕ) (e : ConnectionError) → Opens (unopened (record p { attempts = attempts }) left line e)
+  unopened_keeps attempts e = record {
+    tracks = tracks;
+    progress = emptied_keeps d logs left tracks p.context.out p.context.opened p.context.slots h;
+    is_of = is_of;
+    grows = omega arith;
+    open_blocks = refl;
+    registers = λ k. inl refl;
+    entry = says_nothing d logs policy tracks p.context.opened p.context.blocks (get_deed policy) line words.Get None (replies.Pool (pooling.ConnectionError e)) tt;
+  }
+
+  attempt_keeps : (o : Option ℤ) (t : Taken) → reads_attempt p left line o ≡ Some t → Opens t
+  attempt_keeps (Some code) t is =
+      let same : unopened (attempted p) left line (BadConnection code) ≡ t = cc in
+      subst Opens same (unopened_keeps (attempted p).attempts (BadConnection code))
+  attempt_keeps None t is =
+      option_and_then_some (reads_set_up p left line p.context.opened) (read p.dialect p.armed (Idle []) (setup_process p.dialect no_depth) (left p.context.opened)) t is (λ r e took.
+      let front : ReadsFront d (Idle []) (setup_process d no_depth) (left p.context.opened) r =
+      subst (λ (x : Dialect). ReadsFront x (Idle []) (setup_process x no_depth) (left p.context.opened) r) is_of.dialect (reads_front p.dialect p.armed (Idle []) (setup_process p.dialect no_depth) (left p.context.opened) r e) in
+      opened_took d logs left policy tracks p line is_of h r front r.value.reply t refl took)
+
+  -- or a URL that is at fault
+  pub opening_keeps : (o : Option ConnectionError) (t : Taken) → reads_opening p left line o ≡ Some t → Opens t
+  opening_keeps None t is = attempt_keeps (refusal_at p) t is
+  opening_keeps (Some fault) t is =
+      let same : unopened p left line fault ≡ t = cc in
+      subst Opens same (unopened_keeps p.attempts fault)

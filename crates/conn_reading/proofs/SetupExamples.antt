@@ -5,6 +5,7 @@ use Rattle.std.specs.Option.{option_map}
 use Rattle.conn_result.specs.declared.error.ConnectionError.TheVariants.{CouldntSetupConfiguration}
 use Rattle.conn_result.specs.declared.error.DatabaseErrorKind.TheVariants.{Unknown}
 use Rattle.conn_result.specs.declared.error.Error.TheVariants.{DatabaseError}
+use Rattle.conn_result.specs.declared.pool.Error.TheVariants as pooling
 use Rattle.conn_model.specs.Classes.{class, is_begin, is_built, is_write, same_text, begins, number_behind}
 use Rattle.conn_model.specs.declared.item.Answer.{Answer}
 use Rattle.conn_model.specs.declared.item.Answer.TheVariants.{Accepted, Refused}
@@ -20,6 +21,7 @@ use Rattle.conn_manager.specs.Statuses.{no_depth}
 use Rattle.conn_report.specs.declared.entry.Entry.{Entry}
 use Rattle.conn_report.specs.declared.entry.Reply.TheVariants as replies
 use Rattle.conn_script.specs.Drafts.{empty_script}
+use Rattle.conn_script.specs.Headers.{plain_header}
 use Rattle.conn_script.specs.declared.command.Act.TheVariants as acts
 use Rattle.conn_script.specs.declared.command.Script.{Script}
 use Rattle.conn_script.specs.declared.command.Word.TheVariants as words
@@ -39,7 +41,7 @@ encoding = codes "SET CLIENT_ENCODING TO 'UTF8'"
 -- ---- PostgreSQL runs its two at once; where the second is refused the slot is filled by another server
 
 abbrev two_gets : Script
-two_gets = record (empty_script Pg) { commands = record { line = 2; act = acts.Get } ∷ record { line = 3; act = acts.Get } ∷ [] }
+two_gets = record (empty_script (plain_header Pg)) { commands = record { line = 2; act = acts.Get } ∷ record { line = 3; act = acts.Get } ∷ [] }
 
 abbrev logs : ServerLogs
 logs n =
@@ -49,7 +51,7 @@ logs n =
 
 abbrev entries : List Entry
 entries =
-    make_entry 2 words.Get (Some 0) (replies.Pool (CouldntSetupConfiguration (DatabaseError Unknown (pos 7)) 0)) None (Some 2)
+    make_entry 2 words.Get (Some 0) (replies.Pool (pooling.ConnectionError (CouldntSetupConfiguration (DatabaseError Unknown (pos 7)) 0))) None (Some 2)
     ∷ make_entry 3 words.Get (Some 1) replies.Ok (Some no_depth) (Some 2)
     ∷ []
 
@@ -72,7 +74,7 @@ they_are_read = refl
 -- ---- nothing else is read
 
 abbrev one_get : Script
-one_get = record (empty_script Pg) { commands = record { line = 2; act = acts.Get } ∷ [] }
+one_get = record (empty_script (plain_header Pg)) { commands = record { line = 2; act = acts.Get } ∷ [] }
 
 abbrev log : List Item
 log = item (Run []) zone Accepted ∷ item (Run []) encoding Accepted ∷ []

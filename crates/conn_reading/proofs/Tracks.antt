@@ -1,5 +1,5 @@
 -- The history of a connection, as far as its log was read.
-use Rattle.std.proofs.Common.{◌≡◌, ℕ, ◌+◌, ◌-◌, List, [], ◌∷◌, ◌++◌, length, take, drop, refl, sym, ap, ◌∙◌, subst, append_assoc, append-nil, length-append, arith}
+use Rattle.std.proofs.Common.{◌≡◌, ℕ, ◌+◌, ◌-◌, Bool, true, false, List, [], ◌∷◌, ◌++◌, length, take, drop, refl, sym, ap, ◌∙◌, subst, append_assoc, append-nil, length-append, arith}
 use Rattle.std.proofs.Math.Seq.{take-append_seam, drop-append_seam}
 use Rattle.conn_model.specs.States.{State, Idle}
 use Rattle.conn_model.specs.declared.item.Dialect.{Dialect}
@@ -7,6 +7,7 @@ use Rattle.conn_model.specs.declared.item.Item.{Item}
 use Rattle.conn_manager.specs.Manages.{Done}
 use Rattle.conn_manager.specs.Statuses.{Status, no_depth}
 use Rattle.conn_model.specs.Caches.{nothing_known, Register}
+use Rattle.conn_reading.specs.Asking.{Policy}
 use Rattle.conn_reading.specs.Folds.{Stack, alone, after_items, kind_of, after_step, fold_of, KeepsLive, AllKeepLive}
 use Rattle.conn_reading.specs.Histories.{Operation, IsOperation, operation_process, Step, Follow, step_items, StartsSetUp, IsHistory}
 use Rattle.conn_reading.specs.Owning.{names_of}
@@ -27,6 +28,11 @@ pub record Track : Type 0 where
 -- no call
 abbrev pub no_track : Track
 no_track = record { steps = []; status = no_depth; state = Idle []; register = nothing_known.register }
+
+-- some call was made
+abbrev pub has_call : List Step → Bool
+has_call [] = false
+has_call (e ∷ es) = true
 
 -- the calls are a history, have read all but what is left, and gave names that rise to the counter
 pub record IsTrack (d : Dialect) (log left : List Item) (t : Track) : Type 0 where
@@ -82,8 +88,17 @@ track_history d log left t S h same = record { state = t.state; follows = subst 
 -- ---- its fold
 
 -- the fold of the calls, and how many items they read, with these blocks open
-abbrev pub folded : List Block → Track → Folded
-folded blocks t = record { mark = length (step_items t.steps); stack = fold_of t.steps (alone []); blocks = blocks }
+abbrev pub folded : Policy → List Block → Track → Folded
+folded policy blocks t = record { mark = length (step_items t.steps); stack = fold_of t.steps (alone []); blocks = blocks; policy = policy; begun = has_call t.steps }
+
+-- a connection that set itself up made a call, and so did one with one call more
+pub set_up_begun : (steps : List Step) → StartsSetUp steps → has_call steps ≡ true
+set_up_begun [] h = absurd h
+set_up_begun (e ∷ es) h = refl
+
+pub begun-last : (steps : List Step) (e : Step) → has_call (steps ++ e ∷ []) ≡ true
+begun-last [] e = refl
+begun-last (x ∷ steps) e = refl
 
 pub fold-last : (steps : List Step) (e : Step) (k : Stack) → fold_of (steps ++ e ∷ []) k ≡ after_step e (fold_of steps k)
 fold-last [] e k = refl
@@ -93,12 +108,12 @@ pub live-last : (steps : List Step) (e : Step) (k : Stack) → AllKeepLive steps
 live-last [] e k h g = (g, tt)
 live-last (x ∷ steps) e k h g = (h.0, live-last steps e (after_step x k) h.1 g)
 
-pub folded_at : (f : Folded) (m n : ℕ) (k l : Stack) → m ≡ n → k ≡ l → record f { mark = m; stack = k } ≡ record f { mark = n; stack = l }
-folded_at f m n k l e g = ap (λ (x : ℕ). record f { mark = x; stack = k }) e ∙ ap (λ (x : Stack). record f { mark = n; stack = x }) g
+pub folded_at : (f : Folded) (m n : ℕ) (k l : Stack) (b : Bool) → m ≡ n → k ≡ l → b ≡ true → record f { mark = m; stack = k; begun = true } ≡ record f { mark = n; stack = l; begun = b }
+folded_at f m n k l b e g h = ap (λ (x : ℕ). record f { mark = x; stack = k; begun = true }) e ∙ ap (λ (x : Stack). record f { mark = n; stack = x; begun = true }) g ∙ ap (λ (x : Bool). record f { mark = n; stack = l; begun = x }) (sym h)
 
 -- between what was read and one call more stand the items of that call
-pub between_is : (log used left : List Item) (blocks : List Block) (t : Track) (mark : ℕ) → log ≡ step_items t.steps ++ (used ++ left) → mark ≡ length (step_items t.steps) + length used → between log (folded blocks t) mark ≡ after_items used (fold_of t.steps (alone []))
-between_is log used left blocks t mark all is =
+pub between_is : (log used left : List Item) (policy : Policy) (blocks : List Block) (t : Track) (mark : ℕ) → log ≡ step_items t.steps ++ (used ++ left) → mark ≡ length (step_items t.steps) + length used → between log (folded policy blocks t) mark ≡ after_items used (fold_of t.steps (alone []))
+between_is log used left policy blocks t mark all is =
     let n : ℕ = length (step_items t.steps) in
     let long : mark - n ≡ length used = omega (arith, is) in
     let rest : drop n log ≡ used ++ left = ap (drop n) all ∙ drop-append_seam (step_items t.steps) (used ++ left) in

@@ -1,9 +1,10 @@
 -- What the finished logs of a session's servers answer to its commands.
-use Rattle.std.specs.Prelude.{ℕ, ◌+◌, ◌-◌, ◌^◌, ◌==◌, ◌&&◌, min, nat_eq, zero, suc, ℤ, negsuc, Bool, true, List, [], ◌∷◌, ◌++◌, length, slice_set, Option, Some, None, Ok, Err, if◌then◌else◌}
+use Rattle.std.specs.Prelude.{ℕ, ◌+◌, ◌-◌, ◌^◌, ◌==◌, ◌&&◌, min, nat_eq, zero, suc, ℤ, negsuc, Bool, true, false, List, [], ◌∷◌, ◌++◌, length, slice_set, Option, Some, None, Ok, Err, if◌then◌else◌}
 use Rattle.std.specs.Option.{option_map, option_and_then}
 use Rattle.conn_result.specs.declared.error.ConnectionError.{ConnectionError}
 use Rattle.conn_result.specs.declared.error.ConnectionError.TheVariants.{BadConnection, CouldntSetupConfiguration}
-use Rattle.conn_result.specs.declared.error.Error.{Error}
+use Rattle.conn_result.specs.declared.pool.Error.{Error as PoolError}
+use Rattle.conn_result.specs.declared.pool.Error.TheVariants as pooling
 use Rattle.conn_model.specs.Armed.{Armed, armed_of}
 use Rattle.conn_model.specs.States.{Idle}
 use Rattle.conn_model.specs.declared.item.Dialect.{Dialect}
@@ -14,8 +15,9 @@ use Rattle.conn_model.specs.Caches.{nothing_known}
 use Rattle.conn_drivers.specs.Establishing.{url_fault}
 use Rattle.conn_manager.specs.Manages.{Done, Reply as Answer}
 use Rattle.conn_manager.specs.Setups.{setup_process}
-use Rattle.conn_manager.specs.Statuses.{no_depth}
+use Rattle.conn_manager.specs.Statuses.{is_broken, no_depth}
 use Rattle.conn_report.specs.declared.entry.Entry.{Entry}
+use Rattle.conn_report.specs.declared.entry.Reply.{Reply}
 use Rattle.conn_report.specs.declared.entry.Reply.TheVariants as replies
 use Rattle.conn_script.specs.Requests.{request_of, verb_word}
 use Rattle.conn_script.specs.declared.command.Command.{Command}
@@ -26,7 +28,7 @@ use Rattle.conn_script.specs.declared.query.Declared.{Declared}
 use Rattle.conn_script.specs.declared.request.Request.{Request}
 use Rattle.conn_script.specs.declared.request.Request.TheVariants.{Get, Put, On}
 use Rattle.conn_script.specs.declared.request.Verb.{Verb}
-use Rattle.conn_reading.specs.Asking.{Outcome, process_of}
+use Rattle.conn_reading.specs.Asking.{Outcome, Policy, check_deed, customizer_deed, policy_of, process_of}
 use Rattle.conn_reading.specs.Blocks.{block_on, blocks_after, deed_of}
 use Rattle.conn_reading.specs.Reading.{Read, read}
 use Rattle.conn_reading.specs.Seats.{Seat, Context, at_first, make_entry, entry_on, entry_without, at_number, put_reply, put_slot}
@@ -37,7 +39,7 @@ abbrev pub ServerLogs : Type 0
 ServerLogs = ℕ → List Item
 
 -- where the reading stands: the connections, the attempts to open one so far, the plan, the rows that servers are armed
--- with, the queries that commands name, what the servers are, and the URL at which they are opened
+-- with, the queries that commands name, what the servers are, the URL at which they are opened, and what `get` asks
 pub record Progress : Type 0 where
   pub context : Context
   pub attempts : ℕ
@@ -46,6 +48,7 @@ pub record Progress : Type 0 where
   pub queries : List Declared
   pub dialect : Dialect
   pub url : List ℕ
+  pub policy : Policy
 
 -- an entry, where the reading stands after it, and the items that are left
 pub record Taken : Type 0 where
@@ -102,63 +105,92 @@ with_blocks n verb t = record t { progress = record t.progress { context = recor
 
 -- ---- get and put
 
+-- these slots are left
+abbrev pub with_slots : Progress → List (Option Seat) → Progress
+with_slots p slots = record p { context = record p.context { slots = slots } }
+
+-- the slot that was in front goes to the back, empty
+abbrev pub empties : Progress → Progress
+empties p = with_slots p (p.context.slots ++ None ∷ [])
+
+-- the connection is handed out
+abbrev pub hands_out : Progress → ServerLogs → ℕ → Seat → Taken
+hands_out p logs line seat = taken (entry_on line words.Get replies.Ok seat) (record p { context = record p.context { out = slice_set p.context.out seat.number (Some seat) } }) logs
+
+-- why a connection isn't handed out: what it was asked was refused, or it is a new one with a transaction left open
+abbrev pub refusal_of : Bool → Seat → Reply → Option PoolError
+refusal_of fresh seat (replies.Error e) = Some (pooling.QueryError e seat.number)
+refusal_of fresh seat _ = if fresh && is_broken seat.status then Some (pooling.LeftOpen seat.number) else None
+
+-- the entry of a connection that is closed in place of being handed out
+abbrev pub closed_entry : ℕ → Seat → PoolError → Entry
+closed_entry line seat e = make_entry line words.Get (Some seat.number) (replies.Pool e) None (Some seat.mark)
+
+-- it is handed out, or closed
+abbrev pub readied : Progress → ServerLogs → ℕ → Seat → Option PoolError → Taken
+readied p logs line seat None = hands_out p logs line seat
+readied p logs line seat (Some e) = taken (closed_entry line seat e) (empties p) logs
+
+-- by what it answered to the items that were read
+abbrev pub taken_ready : Progress → ServerLogs → ℕ → Bool → Seat → Read Outcome → Taken
+taken_ready p logs line fresh seat r =
+    let after = seat_after seat (length (logs seat.number)) r in
+    readied p (with_left logs seat.number r.left) line after (refusal_of fresh after r.value.reply)
+
+-- a connection, new or kept, is asked this deed, or nothing
+abbrev pub reads_ready : Progress → ServerLogs → ℕ → Bool → Option Deed → Seat → Option Taken
+reads_ready p logs line fresh None seat = Some (readied p logs line seat (refusal_of fresh seat replies.Ok))
+reads_ready p logs line fresh (Some deed) seat = option_map (taken_ready p logs line fresh seat) (read p.dialect p.armed seat.state (process_of p.dialect p.queries seat.status seat.cache deed) (logs seat.number))
+
 -- the code with which the next attempt is refused, where it is: no number is left, or the plan says so
 abbrev pub refusal_at : Progress → Option ℤ
 refusal_at p = if nat_eq p.context.opened 4294967295 then Some (negsuc 9) else planned_at (p.attempts + 1) p.plan
 
 -- attempts are counted up to the end of their type
-abbrev pub attempted : Progress → Context → Progress
-attempted p context = record p { context = context; attempts = min (p.attempts + 1) (2 ^ 64 - 1) }
+abbrev pub attempted : Progress → Progress
+attempted p = record p { attempts = min (p.attempts + 1) (2 ^ 64 - 1) }
+
+-- an attempt opened a server, whose place is there, without a connection
+abbrev pub with_opened : Progress → Progress
+with_opened p = record (attempted p) { context = record p.context { out = p.context.out ++ None ∷ []; opened = p.context.opened + 1 } }
 
 -- a connection that was just opened, after the items by which it set itself up, of which there were so many
 abbrev pub new_seat : ℕ → ℕ → Read Done → Seat
 new_seat n count r = record { number = n; status = r.value.status; mark = count; state = r.state; cache = nothing_known }
 
--- an attempt opened a server: these slots are left, and at the server's place stands a connection or none
-abbrev pub with_opened : Progress → List (Option Seat) → Option Seat → Progress
-with_opened p slots place = attempted p (record p.context { slots = slots; out = p.context.out ++ place ∷ []; opened = p.context.opened + 1 })
+-- where its setup was accepted it is asked what is asked of new ones
+abbrev pub reads_opened : Progress → ServerLogs → ℕ → Seat → Answer → Option Taken
+reads_opened p logs line seat (Ok u) = reads_ready p logs line true (customizer_deed p.policy.customizer) seat
+reads_opened p logs line seat (Err e) = Some (readied p logs line seat (Some (pooling.ConnectionError (CouldntSetupConfiguration e seat.number))))
 
--- the entry of a connection whose setup was refused: its server is closed again
-abbrev pub setup_refused : ℕ → Seat → Error → Entry
-setup_refused line seat e = make_entry line words.Get (Some seat.number) (replies.Pool (CouldntSetupConfiguration e seat.number)) None (Some seat.mark)
+-- behind the setup of server n, which was read from its log
+abbrev pub reads_set_up : Progress → ServerLogs → ℕ → ℕ → Read Done → Option Taken
+reads_set_up p logs line n r = reads_opened (with_opened p) (with_left logs n r.left) line (new_seat n (length (logs n) - length r.left) r) r.value.reply
 
--- by the answer of its setup the connection is handed out, or its slot goes to the back
-abbrev pub taken_opened : Progress → ServerLogs → ℕ → List (Option Seat) → Seat → Answer → Taken
-taken_opened p logs line rest seat (Ok u) = taken (entry_on line words.Get replies.Ok seat) (with_opened p rest (Some seat)) logs
-taken_opened p logs line rest seat (Err e) = taken (setup_refused line seat e) (with_opened p (rest ++ None ∷ []) None) logs
+-- no server was opened
+abbrev pub unopened : Progress → ServerLogs → ℕ → ConnectionError → Taken
+unopened p logs line e = taken (entry_without line words.Get None (replies.Pool (pooling.ConnectionError e))) (empties p) logs
 
--- what the setup of server n read is taken from its log
-abbrev pub taken_setup : Progress → ServerLogs → ℕ → List (Option Seat) → ℕ → Read Done → Taken
-taken_setup p logs line rest n r = taken_opened p (with_left logs n r.left) line rest (new_seat n (length (logs n) - length r.left) r) r.value.reply
+-- an attempt is refused, or opens the server of the least number not used yet, whose next items are those by which its
+-- connection sets itself up
+abbrev pub reads_attempt : Progress → ServerLogs → ℕ → Option ℤ → Option Taken
+reads_attempt p logs line (Some code) = Some (unopened (attempted p) logs line (BadConnection code))
+reads_attempt p logs line None = option_and_then (reads_set_up p logs line p.context.opened) (read p.dialect p.armed (Idle []) (setup_process p.dialect no_depth) (logs p.context.opened))
 
--- an attempt was refused: the slot goes to the back
-abbrev pub attempt_refused : Progress → ServerLogs → ℕ → List (Option Seat) → ℤ → Taken
-attempt_refused p logs line rest code = taken (entry_without line words.Get None (replies.Pool (BadConnection code))) (attempted p (record p.context { slots = rest ++ None ∷ [] })) logs
+-- a URL that is at fault is no attempt
+abbrev pub reads_opening : Progress → ServerLogs → ℕ → Option ConnectionError → Option Taken
+reads_opening p logs line (Some fault) = Some (unopened p logs line fault)
+reads_opening p logs line None = reads_attempt p logs line (refusal_at p)
 
--- an empty slot in front is filled by the server of the least number not used yet, whose next items are those by which its
--- connection sets itself up; or it goes to the back
-abbrev pub reads_attempt : Progress → ServerLogs → ℕ → List (Option Seat) → Option ℤ → Option Taken
-reads_attempt p logs line rest (Some code) = Some (attempt_refused p logs line rest code)
-reads_attempt p logs line rest None = option_map (taken_setup p logs line rest p.context.opened) (read p.dialect p.armed (Idle []) (setup_process p.dialect no_depth) (logs p.context.opened))
+-- the slot that was in front: an empty one is filled, and a connection in it is checked where connections are
+abbrev pub reads_slot : Progress → ServerLogs → ℕ → Option Seat → Option Taken
+reads_slot p logs line None = reads_opening p logs line (url_fault p.dialect p.url)
+reads_slot p logs line (Some seat) = reads_ready p logs line false (check_deed p.policy.check) seat
 
--- a URL that is at fault is no attempt: the slot goes to the back
-abbrev pub url_refused : Progress → ServerLogs → ℕ → List (Option Seat) → ConnectionError → Taken
-url_refused p logs line rest fault = taken (entry_without line words.Get None (replies.Pool fault)) (record p { context = record p.context { slots = rest ++ None ∷ [] } }) logs
-
--- by the fault of the URL, where it has one
-abbrev pub reads_opening : Progress → ServerLogs → ℕ → List (Option Seat) → Option ConnectionError → Option Taken
-reads_opening p logs line rest (Some fault) = Some (url_refused p logs line rest fault)
-reads_opening p logs line rest None = reads_attempt p logs line rest (refusal_at p)
-
--- a connection in the front slot is handed out
-abbrev pub taken_kept : Progress → ServerLogs → ℕ → List (Option Seat) → Seat → Taken
-taken_kept p logs line rest seat = taken (entry_on line words.Get replies.Ok seat) (record p { context = record p.context { slots = rest; out = slice_set p.context.out seat.number (Some seat) } }) logs
-
--- `get` by the slots: none is free, the front one is empty, or it has a connection
+-- `get` by the slots
 abbrev pub reads_get : Progress → ServerLogs → ℕ → List (Option Seat) → Option Taken
 reads_get p logs line [] = Some (taken (entry_without line words.Get None replies.NoneFree) p logs)
-reads_get p logs line (None ∷ rest) = reads_opening p logs line rest (url_fault p.dialect p.url)
-reads_get p logs line (Some seat ∷ rest) = Some (taken_kept p logs line rest seat)
+reads_get p logs line (slot ∷ rest) = reads_slot (with_slots p rest) logs line slot
 
 -- `put`: the slot goes to the back, with the connection where it is kept
 abbrev pub taken_put : Progress → ServerLogs → ℕ → ℕ → Option Seat → Taken
@@ -199,7 +231,7 @@ whole run = if all_read run.progress.context.opened run.left then Some run.entri
 
 -- nothing is open yet
 abbrev pub started : Script → Progress
-started script = record { context = at_first; attempts = 0; plan = script.plan; armed = armed_of script.plan; queries = script.queries; dialect = script.dialect; url = script.url }
+started script = record { context = at_first script.max_size; attempts = 0; plan = script.plan; armed = armed_of script.plan; queries = script.queries; dialect = script.dialect; url = script.url; policy = policy_of script }
 
 -- a script's commands over the logs of its servers, by their numbers
 abbrev pub run_of : Script → ServerLogs → Option Run

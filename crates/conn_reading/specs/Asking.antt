@@ -20,6 +20,10 @@ use Rattle.conn_report.specs.declared.entry.Reply.TheVariants as replies
 use Rattle.conn_rows.specs.Lists.{first_answer, list_answer}
 use Rattle.conn_script.specs.declared.command.BlockKind.{BlockKind}
 use Rattle.conn_script.specs.declared.command.BlockKind.TheVariants.{Plain, Test}
+use Rattle.conn_script.specs.declared.command.Script.{Script}
+use Rattle.conn_script.specs.declared.command.Customizer.{Customizer}
+use Rattle.conn_script.specs.declared.command.Customizer.TheVariants.{Nop}
+use Rattle.conn_script.specs.declared.command.Customizer.TheVariants as customizers
 use Rattle.conn_script.specs.declared.query.Declared.{Declared}
 use Rattle.conn_script.specs.declared.command.QueryCall.{QueryCall}
 use Rattle.conn_script.specs.declared.command.QueryCall.TheVariants.{Exec, Load, Each, One, Optional}
@@ -155,3 +159,29 @@ process_of d queries s c (deeds.Close kind answer) = map_process (told_as c) (cl
 process_of d queries s c (deeds.Query call n) = declared_process d call (find_query n queries) s c
 process_of d queries s c (deeds.CacheSize size) = Stop (outcome replies.Ok s (resized size c))
 process_of d queries s c deeds.Ping = map_process (asked_as (λ u. replies.Ok)) (ping_process d s c)
+
+-- ---- what `get` asks
+
+-- what a new connection is asked, and whether one that was kept is pinged
+pub record Policy : Type 0 where
+  pub customizer : Customizer
+  pub check : Bool
+
+-- that of a script
+abbrev pub policy_of : Script → Policy
+policy_of script = record { customizer = script.customizer; check = script.check }
+
+-- what a customizer asks of a new connection
+abbrev pub customizer_deed : Customizer → Option Deed
+customizer_deed Nop = None
+customizer_deed customizers.Test = Some deeds.TestBegin
+customizer_deed customizers.Begin = Some deeds.Begin
+
+-- what a connection that was kept is asked
+abbrev pub check_deed : Bool → Option Deed
+check_deed true = Some deeds.Ping
+check_deed false = None
+
+-- what `get` asks of a connection, kept or new
+abbrev pub get_deed : Policy → Bool → Option Deed
+get_deed policy kept = if kept then check_deed policy.check else customizer_deed policy.customizer

@@ -60,11 +60,11 @@ abbrev pub deed_of : Option Block → Verb → Option Deed
 deed_of None verb = plain_deed verb
 deed_of (Some b) verb = deed_in b verb
 
--- the deed of a command; the pool's have none
-abbrev pub request_deed : List Block → Request → Option Deed
-request_deed blocks Get = None
-request_deed blocks (Put n) = None
-request_deed blocks (On n verb) = deed_of (block_on n blocks) verb
+-- the deed of a command, where `get` asks this one
+abbrev pub request_deed : Option Deed → List Block → Request → Option Deed
+request_deed get blocks Get = get
+request_deed get blocks (Put n) = None
+request_deed get blocks (On n verb) = deed_of (block_on n blocks) verb
 
 -- ---- what its reply makes of the blocks
 

@@ -1,5 +1,5 @@
 -- What a command's items are to its query, and what they make of its connection's cache.
-use Rattle.std.specs.Prelude.{◌≡◌, ℕ, ◌+◌, ◌-◌, Bool, ⊤, List, [], ◌∷◌, ◌++◌, length, take, Option, Some, None}
+use Rattle.std.specs.Prelude.{◌≡◌, ℕ, ◌+◌, ◌-◌, Bool, ⊤, List, [], ◌∷◌, ◌++◌, length, take, Option, Some, None, is_some, true}
 use Rattle.conn_model.specs.declared.item.Call.{Call}
 use Rattle.conn_model.specs.declared.item.Call.TheVariants as calls
 use Rattle.conn_model.specs.declared.item.Dialect.{Dialect}
@@ -19,7 +19,7 @@ use Rattle.conn_script.specs.declared.query.Declared.{Declared}
 use Rattle.conn_script.specs.declared.request.Request.{Request}
 use Rattle.conn_script.specs.declared.request.Request.TheVariants.{Get, Put, On}
 use Rattle.conn_reading.specs.Answered.{ServerLogs, Progress, Taken, reads}
-use Rattle.conn_reading.specs.Asking.{find_query, view_of}
+use Rattle.conn_reading.specs.Asking.{check_deed, find_query, view_of}
 use Rattle.conn_reading.specs.Blocks.{block_on, deed_of}
 use Rattle.conn_reading.specs.Seats.{Seat, at_number}
 use Rattle.conn_reading.specs.Sessions.{Each}
@@ -122,9 +122,13 @@ abbrev pub HasRegister : Register → Option Seat → Type 0
 HasRegister r None = ⊥
 HasRegister r (Some seat) = seat.cache.register ≡ r
 
--- these items are the deed's own, and its connection's cache is as they leave it
+-- these items are the deed's own
+abbrev pub OwnItems : Dialect → List Declared → Deed → Register → List Item → Type 0
+OwnItems d queries deed r items = Each (λ (i : Item). IsCallOf d queries r deed i.call i.text) items
+
+-- so they are, and its connection's cache is as they leave it
 pub record IsOwnDeed (d : Dialect) (queries : List Declared) (deed : Deed) (r : Register) (items : List Item) (after : Option Seat) : Type 0 where
-  pub own : Each (λ (i : Item). IsCallOf d queries r deed i.call i.text) items
+  pub own : OwnItems d queries deed r items
   pub register : HasRegister (register_read d queries deed items r) after
 
 -- so it is where a deed is done on a connection that is out
@@ -133,9 +137,27 @@ OwnOn p logs n None place t = ⊤
 OwnOn p logs n (Some deed) None t = ⊤
 OwnOn p logs n (Some deed) (Some seat) t = IsOwnDeed p.dialect p.queries deed seat.cache.register (read_of (logs seat.number) (t.left seat.number)) (at_number n t.progress.context.out)
 
+-- `get` hands connection n out
+abbrev pub HandsOut : ℕ → Taken → Type 0
+HandsOut n t = (is_some t.entry.status ≡ true) × (is_some (at_number n t.progress.context.out) ≡ true)
+
+-- a connection that was kept is asked this deed: its items are the deed's own, and where it is handed out its cache is as they
+-- leave it
+abbrev pub OwnKept : Progress → ServerLogs → Option Deed → Seat → Taken → Type 0
+OwnKept p logs None seat t = ⊤
+OwnKept p logs (Some deed) seat t =
+    let items : List Item = read_of (logs seat.number) (t.left seat.number) in
+    let after : Option Seat = at_number seat.number t.progress.context.out in
+    OwnItems p.dialect p.queries deed seat.cache.register items × (HandsOut seat.number t → HasRegister (register_read p.dialect p.queries deed items seat.cache.register) after)
+
+-- `get` by the slots
+abbrev pub OwnGet : Progress → ServerLogs → List (Option Seat) → Taken → Type 0
+OwnGet p logs (Some seat ∷ rest) t = OwnKept p logs (check_deed p.policy.check) seat t
+OwnGet p logs _ t = ⊤
+
 -- of a command, whose deed the open blocks tell
 abbrev pub OwnAt : Progress → ServerLogs → Request → Taken → Type 0
-OwnAt p logs Get t = ⊤
+OwnAt p logs Get t = OwnGet p logs p.context.slots t
 OwnAt p logs (Put n) t = ⊤
 OwnAt p logs (On n verb) t = OwnOn p logs n (deed_of (block_on n p.context.blocks) verb) (at_number n p.context.out) t
 

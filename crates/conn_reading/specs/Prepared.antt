@@ -17,9 +17,9 @@ use Rattle.conn_script.specs.declared.query.Declared.{Declared}
 use Rattle.conn_script.specs.declared.request.Request.{Request}
 use Rattle.conn_script.specs.declared.request.Request.TheVariants.{Get, Put, On}
 use Rattle.conn_reading.specs.Answered.{ServerLogs, Progress, Taken, reads}
-use Rattle.conn_reading.specs.Asking.{find_query, view_of}
+use Rattle.conn_reading.specs.Asking.{check_deed, find_query, view_of}
 use Rattle.conn_reading.specs.Blocks.{block_on, deed_of, request_deed}
-use Rattle.conn_reading.specs.Owning.{last_given, read_of}
+use Rattle.conn_reading.specs.Owning.{HandsOut, last_given, read_of}
 use Rattle.conn_reading.specs.Seats.{Seat, at_number}
 use Rattle.conn_reading.specs.Sessions.{Each}
 use Rattle.conn_reading.specs.declared.deed.Deed.{Deed}
@@ -67,15 +67,20 @@ PreparesNoneOn p logs key None place t = ⊤
 PreparesNoneOn p logs key (Some deed) None t = ⊤
 PreparesNoneOn p logs key (Some deed) (Some seat) t = HasKey p.dialect key (deed_query p.queries deed) → Each (λ (i : Item). PreparesNone i.call) (deed_items logs seat t)
 
+-- nor by the check of a connection that was kept, where it is connection n
+abbrev pub PreparesNoneKept : ℕ → StatementCacheKey → Progress → ServerLogs → List (Option Seat) → Taken → Type 0
+PreparesNoneKept n key p logs (Some seat ∷ rest) t = seat.number ≡ n → PreparesNoneOn p logs key (check_deed p.policy.check) (Some seat) t
+PreparesNoneKept n key p logs _ t = ⊤
+
 -- one of connection n prepares no query of the key
 abbrev pub PreparesNoneAt : ℕ → StatementCacheKey → Progress → ServerLogs → Request → Taken → Type 0
-PreparesNoneAt n key p logs Get t = ⊤
+PreparesNoneAt n key p logs Get t = PreparesNoneKept n key p logs p.context.slots t
 PreparesNoneAt n key p logs (Put m) t = ⊤
 PreparesNoneAt n key p logs (On m verb) t = m ≡ n → PreparesNoneOn p logs key (deed_of (block_on m p.context.blocks) verb) (at_number m p.context.out) t
 
 -- where it is done on connection n, it gives that no other size
 abbrev pub LeavesUnboundedAt : ℕ → Progress → Request → Taken → Type 0
-LeavesUnboundedAt n p request t = t.entry.connection ≡ Some n → is_some t.entry.status ≡ true → LeavesUnboundedIf (request_deed p.context.blocks request)
+LeavesUnboundedAt n p request t = t.entry.connection ≡ Some n → is_some t.entry.mark ≡ true → LeavesUnboundedIf (request_deed None p.context.blocks request)
 
 -- ---- along a session
 
@@ -90,9 +95,14 @@ OnceOn p logs n None place t cs = ⊤
 OnceOn p logs n (Some deed) None t cs = ⊤
 OnceOn p logs n (Some deed) (Some seat) t cs = last_given None (deed_items logs seat t) ≡ Some true → (q : QueryView) → deed_query p.queries deed ≡ Some q → StaysPrepared n (key_of q (types_for p.dialect q)) t.progress t.left cs
 
+-- where the check of a connection had it accepted, and the connection was handed out
+abbrev pub OnceKept : Progress → ServerLogs → List (Option Seat) → Taken → List Command → Type 0
+OnceKept p logs (Some seat ∷ rest) t cs = HandsOut seat.number t → OnceOn p logs seat.number (check_deed p.policy.check) (Some seat) t cs
+OnceKept p logs _ t cs = ⊤
+
 -- of a command
 abbrev pub OnceAt : Progress → ServerLogs → Request → Taken → List Command → Type 0
-OnceAt p logs Get t cs = ⊤
+OnceAt p logs Get t cs = OnceKept p logs p.context.slots t cs
 OnceAt p logs (Put n) t cs = ⊤
 OnceAt p logs (On n verb) t cs = OnceOn p logs n (deed_of (block_on n p.context.blocks) verb) (at_number n p.context.out) t cs
 

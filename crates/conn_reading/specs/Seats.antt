@@ -1,5 +1,5 @@
 -- The connections of a session, as its report shows them.
-use Rattle.std.specs.Prelude.{ℕ, zero, suc, Bool, not, List, [], ◌∷◌, Option, Some, None, if◌then◌else◌}
+use Rattle.std.specs.Prelude.{ℕ, zero, suc, Bool, not, List, [], ◌∷◌, replicate, Option, Some, None, if◌then◌else◌}
 use Rattle.conn_model.specs.States.{State}
 use Rattle.conn_model.specs.Caches.{Known}
 use Rattle.conn_manager.specs.Statuses.{Status, is_broken}
@@ -25,9 +25,9 @@ pub record Context : Type 0 where
   pub opened : ℕ
   pub blocks : List Block
 
--- one empty slot
-abbrev pub at_first : Context
-at_first = record { slots = None ∷ []; out = []; opened = 0; blocks = [] }
+-- so many empty slots
+abbrev pub at_first : ℕ → Context
+at_first size = record { slots = replicate size None; out = []; opened = 0; blocks = [] }
 
 -- an entry of these
 abbrev pub make_entry : ℕ → Word → Option ℕ → Reply → Option Status → Option ℕ → Entry

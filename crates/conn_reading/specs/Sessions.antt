@@ -1,6 +1,8 @@
 -- What the entries of a session say of its servers, by their finished logs.
 use Rattle.std.specs.Prelude.{◌≡◌, ℕ, ◌-◌, ◌==◌, Bool, true, false, ⊤, List, [], ◌∷◌, take, drop, Option, Some, None, Ok, Err, is_some, if◌then◌else◌}
 use Rattle.std.specs.List.{list_any}
+use Rattle.conn_result.specs.declared.pool.Error.{Error as PoolError}
+use Rattle.conn_result.specs.declared.pool.Error.TheVariants as pooling
 use Rattle.conn_model.specs.Classes.{class}
 use Rattle.conn_model.specs.States.{Idle}
 use Rattle.conn_model.specs.declared.item.Dialect.{Dialect}
@@ -21,6 +23,7 @@ use Rattle.conn_script.specs.declared.request.Request.TheVariants.{Get, Put, On}
 use Rattle.conn_script.specs.declared.request.Verb.{Verb}
 use Rattle.conn_script.specs.declared.request.Verb.TheVariants as verbs
 use Rattle.conn_reading.specs.Answered.{ServerLogs}
+use Rattle.conn_reading.specs.Asking.{Policy, get_deed}
 use Rattle.conn_reading.specs.Blocks.{request_deed, request_blocks}
 use Rattle.conn_reading.specs.Folds.{Stack, alone, after_items, Kind, Begins, Commits, Rolls, Closes, Sends, after_reply, KeepsLive, refuses_transaction, SetsInOpen, NestedMeaning}
 use Rattle.conn_reading.specs.Histories.{Step, step_items, StartsSetUp, IsHistory}
@@ -114,15 +117,18 @@ mark_of n (Some c) mark = if c == n then mark else None
 abbrev pub is_opened : ℕ → List Entry → Bool
 is_opened n entries = list_any (λ (e : Entry). is_some (mark_of n e.connection e.mark)) entries
 
--- where the fold stands: how many items were read, the stack, and the open blocks
+-- where the fold stands: how many items were read, the stack, the open blocks, what `get` asks, and whether an entry showed the
+-- connection
 pub record Folded : Type 0 where
   pub mark : ℕ
   pub stack : Stack
   pub blocks : List Block
+  pub policy : Policy
+  pub begun : Bool
 
 -- nothing was read
-abbrev pub unfolded : Folded
-unfolded = record { mark = 0; stack = alone []; blocks = [] }
+abbrev pub unfolded : Policy → Folded
+unfolded policy = record { mark = 0; stack = alone []; blocks = []; policy = policy; begun = false }
 
 -- what a deed is to the stack
 abbrev pub deed_kind : Deed → Kind
@@ -136,10 +142,17 @@ deed_kind (deeds.Query call n) = Sends
 deed_kind (deeds.CacheSize size) = Sends
 deed_kind deeds.Ping = Sends
 
+-- by why no connection was handed out: one with a transaction left open had begun it
+abbrev pub after_refusal : Kind → PoolError → Stack → Stack
+after_refusal kind (pooling.QueryError e n) k = after_reply kind (Err e) k
+after_refusal kind (pooling.LeftOpen n) k = after_reply kind (Ok tt) k
+after_refusal kind _ k = k
+
 -- by the reply to it; where its connection wasn't out nothing was done
 abbrev pub after_kind : Kind → Reply → Stack → Stack
 after_kind kind replies.Ok k = after_reply kind (Ok tt) k
 after_kind kind (replies.Error e) k = after_reply kind (Err e) k
+after_kind kind (replies.Pool e) k = after_refusal kind e k
 after_kind kind _ k = k
 
 -- a command without a deed does nothing
@@ -154,11 +167,15 @@ between log f mark = after_items (take (mark - f.mark) (drop f.mark log)) f.stac
 -- first the items up to the mark, then the reply
 abbrev pub after_mark : List Item → Option Deed → Reply → Folded → Option ℕ → Folded
 after_mark log deed reply f None = f
-after_mark log deed reply f (Some mark) = record f { mark = mark; stack = after_deed deed reply (between log f mark) }
+after_mark log deed reply f (Some mark) = record f { mark = mark; stack = after_deed deed reply (between log f mark); begun = true }
+
+-- what a command does, by where the fold stands
+abbrev pub deed_here : Folded → Request → Option Deed
+deed_here f request = request_deed (get_deed f.policy f.begun) f.blocks request
 
 -- after the entry of a command on any connection
 abbrev pub after_entry : ℕ → List Item → Request → Entry → Folded → Folded
-after_entry n log request e f = record (after_mark log (request_deed f.blocks request) e.reply f (mark_of n e.connection e.mark)) { blocks = request_blocks request e.reply f.blocks }
+after_entry n log request e f = record (after_mark log (deed_here f request) e.reply f (mark_of n e.connection e.mark)) { blocks = request_blocks request e.reply f.blocks }
 
 -- Fold: where it stands after the entries of connection n, with this log; its result is the lowest list, since all above it
 -- is dropped where the connection is closed or the script ends
@@ -183,7 +200,7 @@ MarkLive log deed reply f (Some mark) = DeedLive deed reply (between log f mark)
 
 -- of the entry of a command on any connection
 abbrev pub EntryLive : ℕ → List Item → Request → Entry → Folded → Type 0
-EntryLive n log request e f = MarkLive log (request_deed f.blocks request) e.reply f (mark_of n e.connection e.mark)
+EntryLive n log request e f = MarkLive log (deed_here f request) e.reply f (mark_of n e.connection e.mark)
 
 -- and of all entries, one after another
 abbrev pub EntriesLive : ℕ → List Item → List Command → List Entry → Folded → Type 0
@@ -192,17 +209,17 @@ EntriesLive n log _ _ f = ⊤
 
 -- no text of a transaction is refused, no savepoint is set in an idle server, and no level in which the transaction was
 -- aborted is kept
-pub record EntryPremises (d : Dialect) (n : ℕ) (log : List Item) (commands : List Command) (entries : List Entry) : Type 0 where
+pub record EntryPremises (d : Dialect) (policy : Policy) (n : ℕ) (log : List Item) (commands : List Command) (entries : List Entry) : Type 0 where
   pub none_refused : list_any refuses_transaction log ≡ false
   pub none_in_idle : SetsInOpen d (Idle []) log
-  pub live : EntriesLive n log commands entries unfolded
+  pub live : EntriesLive n log commands entries (unfolded policy)
 
 -- what a dialect leaves of them where the first holds: on PostgreSQL a refusal may abort, on MySQL an idle server may accept a
 -- savepoint
-abbrev pub PremisesLeft : Dialect → ℕ → List Item → List Command → List Entry → Type 0
-PremisesLeft Pg n log commands entries = EntriesLive n log commands entries unfolded
-PremisesLeft Mysql n log commands entries = SetsInOpen Mysql (Idle []) log
-PremisesLeft Sqlite n log commands entries = ⊤
+abbrev pub PremisesLeft : Dialect → Policy → ℕ → List Item → List Command → List Entry → Type 0
+PremisesLeft Pg policy n log commands entries = EntriesLive n log commands entries (unfolded policy)
+PremisesLeft Mysql policy n log commands entries = SetsInOpen Mysql (Idle []) log
+PremisesLeft Sqlite policy n log commands entries = ⊤
 
 -- ---- the fold after each entry
 

@@ -12,6 +12,7 @@ ghost use Rattle.conn_script.specs.Grammar.{script_of};
 ghost use Rattle.conn_script.specs.declared.command.Script.{Script};
 ghost use Rattle.conn_cache.specs.Turns.{IsRising};
 ghost use Rattle.conn_reading.specs.Answered.{ServerLogs, answered, started};
+ghost use Rattle.conn_reading.specs.Asking.{policy_of};
 ghost use Rattle.conn_reading.specs.Owning.{EachOwn, names_of};
 ghost use Rattle.conn_reading.specs.Prepared.{EachOnce};
 ghost use Rattle.conn_reading.specs.Verdicts.{Verdict, StandsOver};
@@ -80,8 +81,9 @@ pub fn connections_are_handed_out_clean()
 pub fn servers_hold_the_stacks_of_entries()
     ensures { (bytes : List ℕ) (script : Script) (logs : ServerLogs) (entries : List Entry)
         → script_of bytes ≡ Ok script → answered script logs ≡ Some entries → (n : ℕ)
-        → EntryPremises script.dialect n (logs n) script.commands entries
-        → EachNested script.dialect n (logs n) script.commands entries unfolded }
+        → EntryPremises script.dialect (policy_of script) n (logs n) script.commands entries
+        → EachNested script.dialect n (logs n) script.commands entries
+        (unfolded (policy_of script)) }
 {}
 
 /// The writes that a server keeps in the end are the fold of its connection's entries, where no text of a transaction was
@@ -90,9 +92,10 @@ pub fn kept_writes_are_the_fold_of_entries()
     ensures { (bytes : List ℕ) (script : Script) (logs : ServerLogs) (entries : List Entry)
         → script_of bytes ≡ Ok script → answered script logs ≡ Some entries → (n : ℕ)
         → is_opened n entries ≡ true
-        → EntryPremises script.dialect n (logs n) script.commands entries
+        → EntryPremises script.dialect (policy_of script) n (logs n) script.commands entries
         → option_map kept (state_of script.dialect (logs n))
-        ≡ Some (fold_entries n (logs n) script.commands entries unfolded).stack.lowest }
+        ≡ Some (fold_entries n (logs n) script.commands entries
+        (unfolded (policy_of script))).stack.lowest }
 {}
 
 /// Where no text of a transaction was refused, a dialect leaves at most one of the fold's other two premises, for the log of
@@ -102,8 +105,8 @@ pub fn dialects_leave_fewer_premises()
         → script_of bytes ≡ Ok script → answered script logs ≡ Some entries
         → (n : ℕ) → is_opened n entries ≡ true
         → list_any refuses_transaction (logs n) ≡ false
-        → PremisesLeft script.dialect n (logs n) script.commands entries
-        → EntryPremises script.dialect n (logs n) script.commands entries }
+        → PremisesLeft script.dialect (policy_of script) n (logs n) script.commands entries
+        → EntryPremises script.dialect (policy_of script) n (logs n) script.commands entries }
 {}
 
 /// Each call that a command makes is its own: a query runs its own text with its own binds, and prepares it only where its

@@ -17,6 +17,8 @@ use Rattle.conn_result.specs.declared.error.Error.{Error}
 use Rattle.conn_result.specs.declared.error.Error.TheVariants as errors
 use Rattle.conn_result.specs.declared.error.ConnectionError.{ConnectionError}
 use Rattle.conn_result.specs.declared.error.ConnectionError.TheVariants as connecting
+use Rattle.conn_result.specs.declared.pool.Error.{Error as PoolFault}
+use Rattle.conn_result.specs.declared.pool.Error.TheVariants as pooling
 use Rattle.conn_manager.specs.declared.status.InTransactionStatus.{InTransactionStatus}
 use Rattle.conn_manager.specs.declared.status.TransactionManagerStatus.{TransactionManagerStatus}
 use Rattle.conn_manager.specs.declared.status.TransactionManagerStatus.TheVariants.{Valid, InError}
@@ -123,6 +125,14 @@ connection_error_text (connecting.CouldntSetupConfiguration error number) =
     codes "CouldntSetupConfiguration " ++ error_text error
 connection_error_text connecting.OutOfMemory = codes "OutOfMemory"
 
+-- why no connection was handed out: the variant's name, then its content, without the number of the
+-- connection that was closed
+abbrev pub pool_error_text : PoolFault → List ℕ
+pool_error_text (pooling.ConnectionError error) = codes "ConnectionError " ++ connection_error_text error
+pool_error_text (pooling.QueryError error number) = codes "QueryError " ++ error_text error
+pool_error_text (pooling.LeftOpen number) = codes "LeftOpen"
+pool_error_text pooling.OutOfMemory = codes "OutOfMemory"
+
 -- a value as scripts write it, a text as it stands
 abbrev pub value_text : Value → List ℕ
 value_text values.Null = codes "null"
@@ -152,7 +162,7 @@ reply_text replies.NotOut = codes "notout"
 reply_text replies.NoneFree = codes "nonefree"
 reply_text replies.Skipped = codes "skipped"
 reply_text (replies.Error error) = codes "error " ++ error_text error
-reply_text (replies.Pool error) = codes "poolerror ConnectionError " ++ connection_error_text error
+reply_text (replies.Pool error) = codes "poolerror " ++ pool_error_text error
 
 -- what there is, or a dash
 abbrev pub or_dash : {X : Type 0} → (X → List ℕ) → Option X → List ℕ

@@ -2,7 +2,7 @@
 use crate::Texts;
 use conn_manager::TransactionManagerStatus;
 use conn_model::Row;
-use conn_result::{ConnectionError, Error};
+use conn_result::{Error, pool};
 use conn_script::Word;
 use sqlite_items::Items;
 
@@ -32,8 +32,8 @@ pub enum Reply {
     /// Nothing was done, since its block wasn't opened, or a command of it was refused.
     Skipped,
     Error(Error),
-    /// The pool opened no connection.
-    Pool(ConnectionError),
+    /// The pool handed no connection out.
+    Pool(pool::Error),
 }
 
 /// What one command gave: the script's line, its first word, the connection, the reply, and, where a connection was there,

@@ -1,13 +1,13 @@
 //! The text of a report.
 ghost use Rattle.std.specs.Prelude.{◌≡◌, ◌≤◌, ◌+◌, ◌++◌, length, drop, codes, decimal, IfOk, IfSome, OnOk};
 ghost use Rattle.conn_script.specs.Spelling.{word_text};
-ghost use Rattle.conn_report.specs.Report.{connection_error_text, error_text, or_dash, reply_text, words_if, depth_text, status_text, entry_head, entry_end, entry_line, write_line, server_lines, last_line, report};
+ghost use Rattle.conn_report.specs.Report.{pool_error_text, error_text, or_dash, reply_text, words_if, depth_text, status_text, entry_head, entry_end, entry_line, write_line, server_lines, last_line, report};
 
-use crate::errors::{ConnectionErrorText, ErrorText};
+use crate::errors::{ErrorText, PoolErrorText};
 use crate::rows::{push_one_row, push_rows};
 use crate::{Entry, Reply, Texts, Transcript, Word};
 use conn_manager::{InTransactionStatus, TransactionManagerStatus};
-use conn_result::{ConnectionError, Error};
+use conn_result::{Error, pool};
 use itoa::{Buffer, write_digits};
 use std::alloc::{AllocError, Global};
 
@@ -246,16 +246,12 @@ fn push_error(alloc: Global, out: &mut Vec<u8>, error: Error) -> Result<(), Allo
     out.extend_from_slice(text.as_bytes())
 }
 
-/// Adds why the pool opened no connection.
-fn push_pool_error(
-    alloc: Global,
-    out: &mut Vec<u8>,
-    error: ConnectionError,
-) -> Result<(), AllocError>
-    ensures { OnOk result (out.new.items ≡ out.old.items
-        ++ codes "poolerror ConnectionError " ++ connection_error_text error) }
+/// Adds why the pool handed no connection out.
+fn push_pool_error(alloc: Global, out: &mut Vec<u8>, error: pool::Error) -> Result<(), AllocError>
+    ensures { OnOk result (out.new.items
+        ≡ out.old.items ++ codes "poolerror " ++ pool_error_text error) }
 {
-    let text = format!(in alloc; "poolerror ConnectionError {}", ConnectionErrorText(error))?;
+    let text = format!(in alloc; "poolerror {}", PoolErrorText(error))?;
     out.extend_from_slice(text.as_bytes())
 }
 

@@ -60,7 +60,7 @@ end_added n k d e h =
 -- a block is closed
 end_comes : (n k : ℕ) (d : Draft) → d.blocks ≡ suc k → can_close d ≡ true → next n (Some d) (end_line d.inside) ≡ Some (command_added n d (End d.inside))
 end_comes n k d e h =
-    next_reads n d (end_line d.inside) (end_text d.inside (named d h))
+    next_reads n (Some d) (end_line d.inside) (end_text d.inside (named d h))
     ∙ end_reads n d d.inside (named d h)
     ∙ ap (λ (o : Option Draft). o >>= if_closable) (holds (may_come d (request_of (End d.inside))) (command_added n d (End d.inside)) (end_may_come d k e))
     ∙ holds (can_close (command_added n d (End d.inside))) (command_added n d (End d.inside)) (end_added n k d e h)

@@ -3,22 +3,15 @@ use Rattle.std.proofs.Common.{rules, ◌≡◌, ℕ, ◌<◌, ◌≤◌, Bool, t
 use Rattle.std.proofs.lemmas.Grind.{common_steps}
 use Rattle.std.proofs.lemmas.List.{take-append-drop, append-nil, drop_all}
 use Rattle.std.proofs.Math.Seq.{take-append_seam}
-use Rattle.std.specs.Prelude.{◌==◌, nat_lt, codes, if◌then◌else◌}
-use Rattle.std.specs.Option.{option_map}
-use Rattle.std.specs.Str.{IsUtf8, IsValidUpTo, bytes_eq}
-use Rattle.std.specs.List.{list_all, All}
-use Rattle.std.proofs.lemmas.List.Sums.{AllPass-from_list_all}
+use Rattle.std.specs.Prelude.{◌==◌, nat_lt}
+use Rattle.std.specs.Str.{IsUtf8, IsValidUpTo}
 use Rattle.std.proofs.lemmas.Bool.{ltb-true}
-use Rattle.std.proofs.lemmas.Str.Ascii.{IsAscii-from_all}
 use Rattle.std.proofs.lemmas.Bool.Decides.{Decides-eqb, nat_tests}
-use Rattle.std.proofs.lemmas.Slice.Eq.{bytes_eq-Decides}
 use Rattle.std.proofs.lemmas.Str.{IsUtf8-append, IsUtf8-from_ascii}
 use Rattle.conn_script.specs.Words.{split_at}
 use Rattle.conn_script.specs.Fronts.{IsFront}
-use Rattle.conn_model.specs.declared.item.Dialect.TheVariants.{Pg, Mysql, Sqlite}
-use Rattle.conn_script.specs.Grammar.{lines_of, judged, judged_last, next}
-use Rattle.conn_script.specs.Fields.{session_dialect}
-use Rattle.conn_script.specs.Drafts.{Draft, empty_draft}
+use Rattle.conn_script.specs.Grammar.{lines_of, judged, judged_last}
+use Rattle.conn_script.specs.Drafts.{Draft}
 use Rattle.conn_script.proofs.Pieces.{put_first}
 use Rattle.conn_script.proofs.Lines.{left_last, left_bad, next_not_text}
 
@@ -69,32 +62,6 @@ last_more n None xs h = refl
 last_more n (Some s) [] h = absurd (omega arith)
 last_more n (Some s) (x ∷ xs) h = refl
 
--- the test of each byte
-all_below : (bs : List ℕ) → list_all (λ b. nat_lt b 128) bs ≡ true → All (λ b. b < 128) bs
-all_below bs e = λ k d lt. ltb-true _ 128 (AllPass-from_list_all (λ b. nat_lt b 128) bs e k d lt)
-
--- it is no line of such bytes alone
-differs : (line header : List ℕ) (t : Bool) → list_all (λ b. nat_lt b 128) header ≡ true → ¬ (IsUtf8 line) → bytes_eq line header ≡ t → t ≡ false
-differs line header true all h e = absurd (h (subst IsUtf8 (sym ((bytes_eq-Decides line header).0 e)) (IsUtf8-from_ascii header (IsAscii-from_all header (all_below header all)))))
-differs line header false all h e = refl
-
-none_first : (a b c : Bool) → a ≡ false → b ≡ false → c ≡ false → option_map empty_draft (if a then Some Pg else if b then Some Mysql else if c then Some Sqlite else None) ≡ None
-none_first true b c p q r = absurd (cc)
-none_first false true c p q r = absurd (cc)
-none_first false false true p q r = absurd (cc)
-none_first false false false p q r = refl
-
-first_not_text : (line : List ℕ) → ¬ (IsUtf8 line) → option_map empty_draft (session_dialect line) ≡ None
-first_not_text line h = none_first _ _ _ (not_this (codes "session pg 1 nop nocheck") refl) (not_this (codes "session mysql 1 nop nocheck") refl) (not_this (codes "session sqlite 1 nop nocheck") refl)
-  where
-    not_this : (header : List ℕ) → list_all (λ b. nat_lt b 128) header ≡ true → bytes_eq line header ≡ false
-    not_this header all = differs line header (bytes_eq line header) all h refl
-
--- no script goes on with a line that is no text
-none_next : (n : ℕ) (s : Option Draft) (line : List ℕ) → ¬ (IsUtf8 line) → next n s line ≡ None
-none_next n None line h = first_not_text line h
-none_next n (Some s) line h = next_not_text n s line h
-
 -- the line in which the text ends is no text
 ends_in : (bytes done rest x y : List ℕ) → IsUtf8 done → bytes ≡ done ++ rest ++ (x ++ 10 ∷ y) → IsValidUpTo bytes (length (done ++ rest)) → ¬ (IsUtf8 (rest ++ x))
 ends_in bytes done rest x y before parts valid text =
@@ -114,7 +81,7 @@ bad_part n s bytes done rest tail x None before parts valid more e cut =
     left_last n s (rest ++ tail) (rest ++ x) cut ∙ last_more n s (rest ++ x) long
 bad_part n s bytes done rest tail x (Some y) before parts valid more e cut =
     let all : bytes ≡ done ++ rest ++ (x ++ 10 ∷ y) = parts ∙ ap (λ (t : List ℕ). done ++ rest ++ t) (joined 10 tail x y e) in
-    left_bad n s (rest ++ tail) (rest ++ x) y cut (sym (none_next n s (rest ++ x) (ends_in bytes done rest x y before all valid)))
+    left_bad n s (rest ++ tail) (rest ++ x) y cut (sym (next_not_text n s (rest ++ x) (ends_in bytes done rest x y before all valid)))
 
 -- the text ends before the bytes do, and with no line feed behind what was read: this line is bad
 pub bad_end : (n : ℕ) (s : Option Draft) (bytes done rest tail line : List ℕ) → IsUtf8 done → bytes ≡ done ++ rest ++ tail → IsValidUpTo bytes (length (done ++ rest)) → 0 < length tail

@@ -3,6 +3,7 @@ use Rattle.std.proofs.Common.{◌≡◌, ℕ, Bool, true, false, cond, List, [],
 use Rattle.std.specs.Prelude.{◌||◌}
 use Rattle.std.specs.List.{list_any}
 use Rattle.std.specs.BTreeMap.{is_at}
+use Rattle.std.specs.Ordering.{nat_cmp}
 use Rattle.std.specs.declared.cmp.Ordering.{Ordering}
 use Rattle.std.proofs.lemmas.List.Folds.{list_any-append}
 use Rattle.conn_script.specs.Keys.{is_key, is_named_in, AreKeys}
@@ -18,8 +19,12 @@ any_more test xs x = list_any-append test xs (x ∷ []) ∙ turned (list_any tes
     turned false false = refl
 
 -- which of two items is asked for is the same
-pub turned : (a b : ℕ × ℕ) → is_at (compare_items a) b ≡ is_at (compare_items b) a
-turned a b = grind arith
+pub turned_item : (a b : ℕ × ℕ) → is_at (compare_items a) b ≡ is_at (compare_items b) a
+turned_item a b = grind arith
+
+-- and which of two numbers
+pub turned_number : (a b : ℕ) → is_at (nat_cmp a) b ≡ is_at (nat_cmp b) a
+turned_number a b = grind arith
 
 module _ {X K : Type 0} (compare : K → K → Ordering) (key : X → Option K) where
   named_more : (lines : List X) (x : X) (o : Option K) (k : K) → key x ≡ o → is_named_in compare key (lines ++ x ∷ []) k ≡ cond (is_key compare k o) true (is_named_in compare key lines k)

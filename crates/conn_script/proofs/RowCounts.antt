@@ -5,12 +5,12 @@ use Rattle.conn_model.specs.Classes.{same_text}
 use Rattle.conn_model.specs.TextLaws.{text_is}
 use Rattle.conn_model.specs.declared.plan.PlanLine.{PlanLine}
 use Rattle.conn_model.specs.declared.plan.PlanLine.TheVariants.{Refuse, RefuseRow, NoConnect, Rows, Notify}
-use Rattle.conn_script.specs.RowCounts.{AreRowCounts, row_count_of, next_count}
+use Rattle.conn_script.specs.RowCounts.{AreRowCounts, row_count_of, count_with_row}
 use Rattle.conn_script.specs.Tables.{Table, value_at}
 use Rattle.conn_script.specs.declared.row_counts.RowCount.{RowCount}
 
 -- one row more
-count_one_more : (rows : List Values) (row : Values) → row_count_of (rows ++ row ∷ []) ≡ Some (next_count (row_count_of rows) (length row))
+count_one_more : (rows : List Values) (row : Values) → row_count_of (rows ++ row ∷ []) ≡ Some (count_with_row (row_count_of rows) (length row))
 count_one_more [] row = refl
 count_one_more (first ∷ rows) row =
     let size : length (first ∷ rows ++ row ∷ []) ≡ length (first ∷ rows) + 1 = omega (arith, length-append rows (row ∷ [])) in
@@ -47,7 +47,7 @@ counts_same table plan line h none text =
 
 -- a line that gives a row
 pub counts_more : (before after : Table (List ℕ) RowCount) (plan : List PlanLine) (text : List ℕ) (row : Values) → AreRowCounts before plan
-    → ((other : List ℕ) → value_at same_text after other ≡ cond (same_text text other) (Some (next_count (row_count_of (rows_of (armed_of plan) text)) (length row))) (value_at same_text before other))
+    → ((other : List ℕ) → value_at same_text after other ≡ cond (same_text text other) (Some (count_with_row (row_count_of (rows_of (armed_of plan) text)) (length row))) (value_at same_text before other))
     → AreRowCounts after (plan ++ Rows text row ∷ [])
 counts_more before after plan text row h puts other = by_text (same_text text other) refl
   where
@@ -58,7 +58,7 @@ counts_more before after plan text row h puts other = by_text (same_text text ot
     rows = rows_of (armed_of plan) other
 
     count : List ℕ → Option RowCount
-    count t = Some (next_count (row_count_of (rows_of (armed_of plan) t)) (length row))
+    count t = Some (count_with_row (row_count_of (rows_of (armed_of plan) t)) (length row))
 
     put : (b : Bool) → same_text text other ≡ b → value_at same_text after other ≡ cond b (count text) (value_at same_text before other)
     put b e = puts other ∙ ap (λ (c : Bool). cond c (count text) (value_at same_text before other)) e

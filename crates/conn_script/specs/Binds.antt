@@ -27,11 +27,11 @@ bind_named bs = do
   Some (record { kind = kind; value = value })
 
 -- binds with commas between them
-abbrev pub bind_list : List ℕ → Option (List Bind)
-bind_list bs = readings bind_named (pieces 44 bs)
+abbrev pub bind_series : List ℕ → Option (List Bind)
+bind_series bs = readings bind_named (pieces 44 bs)
 
 -- no binds, or a list of at most 256 bytes
 abbrev pub binds_named : List ℕ → Option (List Bind)
 binds_named bs =
     if bytes_eq bs (codes "-") then Some [] else
-    if nat_le (length bs) 256 then bind_list bs else None
+    if nat_le (length bs) 256 then bind_series bs else None

@@ -1,5 +1,6 @@
 -- What the lines so far say, and what one line more adds.
-use Rattle.std.specs.Prelude.{ℕ, ◌+◌, ◌&&◌, ◌||◌, not, Bool, true, false, nat_le, nat_lt, List, [], ◌∷◌, ◌++◌, length, Option, codes}
+use Rattle.std.specs.Prelude.{ℕ, ◌+◌, ◌&&◌, ◌||◌, not, Bool, true, nat_le, nat_lt, List, [], ◌∷◌, ◌++◌, length, Option, codes}
+use Rattle.std.specs.Ordering.{nat_cmp}
 use Rattle.conn_model.specs.Armed.{armed_of, rows_of}
 use Rattle.conn_model.specs.declared.item.Dialect.{Dialect}
 use Rattle.conn_model.specs.declared.item.Dialect.TheVariants.{Pg, Mysql, Sqlite}
@@ -8,15 +9,16 @@ use Rattle.conn_model.specs.declared.plan.PlanLine.TheVariants.{Rows}
 use Rattle.conn_script.specs.Keys.{is_named_in}
 use Rattle.conn_script.specs.Openings.{blocks_behind, fits_dialect, inside_behind, loads_behind, may_load, may_stand}
 use Rattle.conn_script.specs.Options.{◌>>=◌, guard}
-use Rattle.conn_script.specs.Plans.{compare_items, is_setup, refused_key, refused_line, refused_row_key, refused_row_line}
+use Rattle.conn_script.specs.Plans.{compare_items, is_setup, refused_attempt_key, refused_attempt_line, refused_key, refused_line, refused_row_key, refused_row_line}
 use Rattle.conn_script.specs.Queries.{is_declared, is_used, query_text}
 use Rattle.conn_script.specs.Requests.{request_of}
 use Rattle.conn_script.specs.RowCounts.{may_follow, row_count_of}
 use Rattle.conn_script.specs.declared.command.Act.{Act}
-use Rattle.conn_script.specs.declared.command.Customizer.TheVariants as customizers
 use Rattle.conn_script.specs.declared.command.Script.{Script}
+use Rattle.conn_script.specs.declared.header.Header.{Header}
 use Rattle.conn_script.specs.declared.plan.QueryRow.{QueryRow}
 use Rattle.conn_script.specs.declared.plan.Refused.{Refused}
+use Rattle.conn_script.specs.declared.plan.RefusedAttempt.{RefusedAttempt}
 use Rattle.conn_script.specs.declared.plan.RefusedRow.{RefusedRow}
 use Rattle.conn_script.specs.declared.query.Declared.{Declared}
 use Rattle.conn_script.specs.declared.request.Request.{Request}
@@ -46,22 +48,22 @@ default_url Pg = codes "postgres://localhost"
 default_url Mysql = codes "mysql://localhost"
 default_url Sqlite = codes ":memory:"
 
--- a session over a dialect with a pool of one connection, which is neither customized nor checked
-abbrev pub empty_script : Dialect → Script
-empty_script dialect = record {
-  dialect = dialect;
-  max_size = 1;
-  customizer = customizers.Nop;
-  check = false;
-  url = default_url dialect;
+-- a session with this header, of which no more is said
+abbrev pub empty_script : Header → Script
+empty_script header = record {
+  dialect = header.dialect;
+  max_size = header.max_size;
+  customizer = header.customizer;
+  check = header.check;
+  url = default_url header.dialect;
   plan = [];
   queries = [];
   commands = [];
 }
 
 -- the draft of the first line alone
-abbrev pub empty_draft : Dialect → Draft
-empty_draft dialect = draft_of (empty_script dialect) 0 0 0
+abbrev pub empty_draft : Header → Draft
+empty_draft header = draft_of (empty_script header) 0 0 0
 
 -- the draft with one command more, that of line n
 abbrev pub command_added : ℕ → Draft → Act → Draft
@@ -110,6 +112,13 @@ with_refused_row d r =
     guard (is_setup d.script.commands
     && not (is_named_in compare_items refused_row_key d.script.plan (r.server, r.item)))
     (plan_added d (refused_row_line r))
+
+-- the draft with one more attempt refused, which no other line may refuse, before the first command
+abbrev pub with_refused_attempt : Draft → RefusedAttempt → Option Draft
+with_refused_attempt d r =
+    guard (is_setup d.script.commands
+    && not (is_named_in nat_cmp refused_attempt_key d.script.plan r.attempt))
+    (plan_added d (refused_attempt_line r))
 
 -- so many values may come as a further row of the text, before the first command
 abbrev pub may_give : Draft → List ℕ → ℕ → Bool

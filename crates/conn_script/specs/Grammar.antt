@@ -8,10 +8,10 @@ use Rattle.conn_model.specs.declared.cache.CacheSize.TheVariants.{Unbounded, Dis
 pub use Rattle.conn_script.specs.Options.{◌>>=◌, guard}
 use Rattle.conn_script.specs.Words.{split_at, pieces, is_statement}
 use Rattle.conn_script.specs.Spelling.{word_named}
-use Rattle.conn_script.specs.Fields.{session_dialect}
-use Rattle.conn_script.specs.Plans.{query_row_of, refused_of, refused_row_of}
+use Rattle.conn_script.specs.Headers.{header_of}
+use Rattle.conn_script.specs.Plans.{query_row_of, refused_attempt_of, refused_of, refused_row_of}
 use Rattle.conn_script.specs.Queries.{declared_of}
-use Rattle.conn_script.specs.Drafts.{Draft, empty_draft, with_command, with_query, with_refused, with_refused_row, with_row, if_closable}
+use Rattle.conn_script.specs.Drafts.{Draft, empty_draft, with_command, with_query, with_refused, with_refused_attempt, with_refused_row, with_row, if_closable}
 use Rattle.conn_script.specs.declared.command.Word.{Word}
 use Rattle.conn_script.specs.declared.command.Word.TheVariants as words
 use Rattle.conn_script.specs.declared.command.Act.{Act}
@@ -90,12 +90,16 @@ act_of first rest = do
   act_from word rest
 
 -- the draft with the item that a line refuses, by what follows its word
-abbrev pub with_refusal : Draft → Option (List ℕ) → Option Draft
-with_refusal d rest = refused_of d.script.dialect rest >>= with_refused d
+abbrev pub with_item_refusal : Draft → Option (List ℕ) → Option Draft
+with_item_refusal d rest = refused_of d.script.dialect rest >>= with_refused d
 
 -- the draft with the row that a line refuses, likewise
 abbrev pub with_row_refusal : Draft → Option (List ℕ) → Option Draft
 with_row_refusal d rest = refused_row_of d.script.dialect rest >>= with_refused_row d
+
+-- the draft with the attempt to connect that a line refuses, likewise
+abbrev pub with_attempt_refusal : Draft → Option (List ℕ) → Option Draft
+with_attempt_refusal d rest = refused_attempt_of rest >>= with_refused_attempt d
 
 -- the draft with the query that a line declares
 abbrev pub with_declared : Draft → Option (List ℕ) → Option Draft
@@ -119,19 +123,24 @@ with_query_words n d first rest =
 -- a space
 abbrev pub with_words : ℕ → Draft → List ℕ × Option (List ℕ) → Option Draft
 with_words n d line =
-    if bytes_eq line.0 (codes "refuse") then with_refusal d line.1 else
+    if bytes_eq line.0 (codes "refuse") then with_item_refusal d line.1 else
     if bytes_eq line.0 (codes "refuserow") then with_row_refusal d line.1 else
+    if bytes_eq line.0 (codes "noconnect") then with_attempt_refusal d line.1 else
     with_query_words n d line.0 line.1
 
 -- the draft with one more line of text, behind which the lines that are due can still come
 abbrev pub with_text : ℕ → Draft → List ℕ → Option Draft
 with_text n d line = with_words n d (split_at 32 line) >>= if_closable
 
+-- the draft that the lines up to this one, the text of line n, make: the first one is a header
+abbrev pub with_line : ℕ → Option Draft → List ℕ → Option Draft
+with_line n None line = option_map empty_draft (header_of line)
+with_line n (Some d) line = with_text n d line
+
 -- the draft that the lines up to this one, the line of number n, make, if a script may go on with
 -- it
 abbrev pub next : ℕ → Option Draft → List ℕ → Option Draft
-next n None line = option_map empty_draft (session_dialect line)
-next n (Some d) line = if is_utf8 line then with_text n d line else None
+next n draft line = if is_utf8 line then with_line n draft line else None
 
 -- the parts between line feeds; the last one is what follows the last line feed
 abbrev pub lines_of : List ℕ → List (List ℕ)

@@ -18,9 +18,9 @@ may_follow None values = true
 may_follow (Some count) values = nat_lt count.rows 16 && values == count.values
 
 -- the count with one row more, which has so many values where it is the first one
-abbrev pub next_count : Option RowCount → ℕ → RowCount
-next_count None values = record { rows = 1; values = values }
-next_count (Some count) values = record { rows = count.rows + 1; values = count.values }
+abbrev pub count_with_row : Option RowCount → ℕ → RowCount
+count_with_row None values = record { rows = 1; values = values }
+count_with_row (Some count) values = record { rows = count.rows + 1; values = count.values }
 
 -- the rows that the plan gives each text are counted
 abbrev pub AreRowCounts : Table (List ℕ) RowCount → List PlanLine → Type 0

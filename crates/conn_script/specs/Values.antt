@@ -64,9 +64,9 @@ abbrev pub value_named : List ℕ → Option Value
 value_named bs = value_by (split_at 58 bs).0 (split_at 58 bs).1
 
 -- values with commas between them
-abbrev pub value_list : List ℕ → Option (List Value)
-value_list bs = readings value_named (pieces 44 bs)
+abbrev pub value_series : List ℕ → Option (List Value)
+value_series bs = readings value_named (pieces 44 bs)
 
 -- one to 16 values
 abbrev pub row_values : List ℕ → Option (List Value)
-row_values bs = value_list bs >>= λ values. guard (nat_le (length values) 16) values
+row_values bs = value_series bs >>= λ values. guard (nat_le (length values) 16) values

@@ -1,6 +1,6 @@
 //! The binds of a query as scripts write them.
 ghost use Rattle.std.specs.Prelude.{◌≡◌, IfOk};
-ghost use Rattle.conn_script.specs.Binds.{bind_named, bind_list, binds_named, type_named};
+ghost use Rattle.conn_script.specs.Binds.{bind_named, bind_series, binds_named, type_named};
 
 use crate::values::value_of;
 use crate::words::cut_at;
@@ -43,8 +43,8 @@ fn bind_of(alloc: Global, text: &str) -> Result<Option<Bind>, AllocError>
 }
 
 /// Binds with commas between them.
-fn bind_list(alloc: Global, text: &str) -> Result<Option<Binds>, AllocError>
-    ensures { IfOk result (λ binds. binds ≡ bind_list text.now) }
+fn bind_series(alloc: Global, text: &str) -> Result<Option<Binds>, AllocError>
+    ensures { IfOk result (λ binds. binds ≡ bind_series text.now) }
 {
     let mut binds = Items::new(alloc);
     let mut rest = text;
@@ -71,5 +71,5 @@ pub fn binds_of(alloc: Global, text: &str) -> Result<Option<Binds>, AllocError>
     if text.len() > MAX_BINDS {
         return Ok(None);
     }
-    bind_list(alloc, text)
+    bind_series(alloc, text)
 }

@@ -8,15 +8,19 @@ ghost use Rattle.conn_script.specs.Queries.{is_id, is_used, query_text};
 ghost use Rattle.conn_script.specs.Requests.{request_of};
 ghost use Rattle.conn_script.specs.RowCounts.{row_count_of};
 ghost use Rattle.conn_script.specs.Tables.{value_at};
-ghost use Rattle.conn_script.specs.Drafts.{can_close, default_url, empty_draft, empty_script, is_taken, knows, may_ask, with_command, with_query, with_refused, with_refused_row, with_row};
+ghost use Rattle.conn_script.specs.Drafts.{can_close, default_url, empty_draft, empty_script, is_taken, knows, may_ask, with_command, with_query, with_refused, with_refused_attempt, with_refused_row, with_row};
 
+use crate::header::Header;
 use crate::openings::{
     bounds_block, can_end, fits_dialect, loads_behind, may_load, may_stand, open_behind,
 };
-use crate::plan::{QueryRow, Refused, RefusedRow, refused_line, refused_row_line};
-use crate::row_counts::{RowCount, may_follow, next_count};
+use crate::plan::{
+    QueryRow, Refused, RefusedAttempt, RefusedRow, refused_attempt_line, refused_line,
+    refused_row_line,
+};
+use crate::row_counts::{RowCount, count_with_row, may_follow};
 use crate::table::Table;
-use crate::{Act, Command, Customizer, Declared, Script};
+use crate::{Act, Command, Declared, Script};
 use conn_model::{Dialect, LentText, PlanLine, Text};
 use sqlite_items::Items;
 use std::alloc::{AllocError, Global};
@@ -25,8 +29,8 @@ use std::marker::Model;
 
 /// A script so far, seen as it stands with its open blocks and the number of its commands that ask
 /// for rows. Beside it are the items that its plan refuses and the runs of which it refuses a row,
-/// each a server and the item's number, the texts of its queries by their numbers, their ids, and
-/// the rows of each text, counted.
+/// each a server and the item's number, the attempts to connect that it refuses, the texts of its
+/// queries by their numbers, their ids, and the rows of each text, counted.
 #[derive(Drop)]
 pub struct Draft<'a> {
     script: Script<'a>,
@@ -37,14 +41,16 @@ pub struct Draft<'a> {
     loads: u32,
     refused: BTreeSet<(u32, u64)>,
     refused_rows: BTreeSet<(u32, u64)>,
+    refused_attempts: BTreeSet<u32>,
     texts: Table<u32, LentText<'a>>,
     ids: Table<u64, ()>,
     rows: Table<LentText<'a>, RowCount>,
 }
 
 impl<'a> Model for Draft<'a> {
+    ghost use Rattle.std.specs.Ordering.{nat_cmp};
     ghost use Rattle.conn_script.specs.Keys.{AreKeys};
-    ghost use Rattle.conn_script.specs.Plans.{compare_items, refused_key, refused_row_key};
+    ghost use Rattle.conn_script.specs.Plans.{compare_items, refused_attempt_key, refused_key, refused_row_key};
     ghost use Rattle.conn_script.specs.Queries.{AreIds, AreTexts};
     ghost use Rattle.conn_script.specs.RowCounts.{AreRowCounts};
     ghost use Rattle.conn_script.specs.Drafts.{Draft, draft_of};
@@ -55,6 +61,7 @@ impl<'a> Model for Draft<'a> {
 
     ghost invariant = { λ d. AreKeys compare_items refused_key d.refused.keys d.script.plan
         × AreKeys compare_items refused_row_key d.refused_rows.keys d.script.plan
+        × AreKeys nat_cmp refused_attempt_key d.refused_attempts.keys d.script.plan
         × AreTexts d.texts d.script.queries × AreIds d.ids d.script.queries
         × AreRowCounts d.rows d.script.plan };
 }
@@ -71,15 +78,15 @@ fn default_url(dialect: Dialect) -> &'static str
 }
 
 /// The script of the first line alone.
-fn empty<'a>(alloc: Global, dialect: Dialect) -> Result<Script<'a>, AllocError>
-    ensures { IfOk result (λ script. script ≡ empty_script dialect) }
+fn empty<'a>(alloc: Global, header: Header) -> Result<Script<'a>, AllocError>
+    ensures { IfOk result (λ script. script ≡ empty_script header) }
 {
     Ok(Script {
-        dialect,
-        max_size: 1,
-        customizer: Customizer::Nop,
-        check: false,
-        url: Text::new(alloc, default_url(dialect))?,
+        dialect: header.dialect,
+        max_size: header.max_size,
+        customizer: header.customizer,
+        check: header.check,
+        url: Text::new(alloc, default_url(header.dialect))?,
         plan: Items::new(alloc),
         queries: Items::new(alloc),
         commands: Items::new(alloc),
@@ -99,16 +106,17 @@ fn add_id(ids: &mut Table<u64, ()>, id: Option<u64>)
 
 impl<'a> Draft<'a> {
     /// The draft of the first line alone.
-    pub fn new(alloc: Global, dialect: Dialect) -> Result<Draft<'a>, AllocError>
-        ensures { IfOk result (λ draft. draft ≡ empty_draft dialect) }
+    pub fn new(alloc: Global, header: Header) -> Result<Draft<'a>, AllocError>
+        ensures { IfOk result (λ draft. draft ≡ empty_draft header) }
     {
         Ok(Draft {
-            script: empty(alloc, dialect)?,
+            script: empty(alloc, header)?,
             blocks: 0,
             inside: 0,
             loads: 0,
             refused: BTreeSet::new(alloc),
             refused_rows: BTreeSet::new(alloc),
+            refused_attempts: BTreeSet::new(alloc),
             texts: Table::new(alloc),
             ids: Table::new(alloc),
             rows: Table::new(alloc),
@@ -252,6 +260,29 @@ impl<'a> Draft<'a> {
         }
     }
 
+    /// Adds an attempt to connect that is refused, and answers whether it may come here: no other
+    /// line refuses it, and no command stands before it.
+    pub fn add_refused_attempt(&mut self, r: RefusedAttempt) -> Result<bool, AllocError>
+        ensures added { IfOk result (λ good. guard good self.new
+            ≡ with_refused_attempt self.old r) }
+        ensures kept { OnErr result (self.new ≡ self.old) }
+    {
+        if !self.is_setup() {
+            return Ok(false);
+        }
+        if self.refused_attempts.contains(&r.attempt) {
+            return Ok(false);
+        }
+        self.script.plan.push(refused_attempt_line(r))?;
+        match self.refused_attempts.insert(r.attempt) {
+            Ok(_) => Ok(true),
+            Err(e) => {
+                let _ = self.script.plan.pop();
+                Err(e.into())
+            }
+        }
+    }
+
     /// Adds a row of the text of a query, and answers whether it may come here: the query is
     /// declared, its text has fewer than 16 rows, all of as many values, and no command stands
     /// before it.
@@ -274,7 +305,7 @@ impl<'a> Draft<'a> {
         self.rows.reserve()?;
         self.script.plan.push(line)?;
         self.rows
-            .put(LentText::new(text), next_count(count, values));
+            .put(LentText::new(text), count_with_row(count, values));
         Ok(true)
     }
 
@@ -330,6 +361,7 @@ impl<'a> Draft<'a> {
             loads: _,
             refused: _,
             refused_rows: _,
+            refused_attempts: _,
             texts: _,
             ids: _,
             rows: _,

@@ -6,6 +6,7 @@ mod binds;
 mod command;
 mod draft;
 mod fields;
+mod header;
 mod kinds;
 mod law;
 mod openings;
@@ -29,12 +30,3 @@ pub use parse::parse_script;
 pub use query::{Declared, Declareds, Safety};
 pub use request::{Request, Verb};
 pub use shape::{Shape, ShapeKind};
-
-#[cfg(test)]
-mod dialect_tests;
-#[cfg(test)]
-mod query_tests;
-#[cfg(test)]
-mod row_tests;
-#[cfg(test)]
-mod tests;

@@ -113,3 +113,26 @@ pub fn fits_dialect(dialect: Dialect, act: &Act) -> bool
         _ => true,
     }
 }
+
+#[cfg(test)]
+mod tests {
+    use super::*;
+
+    /// Commands, open blocks, and whether these can be closed behind them.
+    const ROOMS: [(usize, u32, bool); 7] = [
+        (0, 64, true),
+        (1_048_576, 0, true),
+        (1_048_577, 0, false),
+        (1_048_575, 1, true),
+        (1_048_576, 1, false),
+        (1_048_512, 64, true),
+        (1_048_513, 64, false),
+    ];
+
+    #[test]
+    fn lines_that_are_due_have_their_room(rt: HostRuntime) {
+        for (commands, blocks, room) in ROOMS {
+            assert!(rt; can_end(commands, blocks, 4_294_967_295) == room);
+        }
+    }
+}

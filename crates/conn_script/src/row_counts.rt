@@ -1,6 +1,6 @@
 //! How many rows texts have, and how many values each of these.
 ghost use Rattle.std.specs.Prelude.{◌≡◌, true};
-ghost use Rattle.conn_script.specs.RowCounts.{may_follow, next_count};
+ghost use Rattle.conn_script.specs.RowCounts.{may_follow, count_with_row};
 
 /// The rows that a text has at most.
 const MAX_ROWS: usize = 16;
@@ -23,9 +23,9 @@ pub fn may_follow(count: Option<RowCount>, values: usize) -> bool
 }
 
 /// The count with one row more, which has so many values where it is the first one.
-pub fn next_count(count: Option<RowCount>, values: usize) -> RowCount
+pub fn count_with_row(count: Option<RowCount>, values: usize) -> RowCount
     requires { may_follow count values ≡ true }
-    ensures { result ≡ next_count count values }
+    ensures { result ≡ count_with_row count values }
 {
     match count {
         Some(count) => RowCount {

@@ -2,7 +2,7 @@
 ghost use Rattle.std.specs.Prelude.{◌≡◌, IfOk};
 ghost use Rattle.std.specs.List.{list_all};
 ghost use Rattle.std.specs.Option.{option_copied};
-ghost use Rattle.conn_script.specs.Values.{not_negative, below_zero, bytes_named, hex_bytes, integer_by, integer_named, is_no_capital, is_shown, text_named, value_by, value_named, value_list, row_values};
+ghost use Rattle.conn_script.specs.Values.{not_negative, below_zero, bytes_named, hex_bytes, integer_by, integer_named, is_no_capital, is_shown, text_named, value_by, value_named, value_series, row_values};
 
 use crate::words::cut_at;
 use conn_model::{Bytes, Text, Value, number_u64};
@@ -123,8 +123,8 @@ pub fn value_of(alloc: Global, text: &str) -> Result<Option<Value>, AllocError>
 }
 
 /// Values with commas between them.
-fn value_list(alloc: Global, text: &str) -> Result<Option<Items<Value>>, AllocError>
-    ensures { IfOk result (λ values. values ≡ value_list text.now) }
+fn value_series(alloc: Global, text: &str) -> Result<Option<Items<Value>>, AllocError>
+    ensures { IfOk result (λ values. values ≡ value_series text.now) }
 {
     let mut values = Items::new(alloc);
     let mut rest = text;
@@ -145,7 +145,7 @@ fn value_list(alloc: Global, text: &str) -> Result<Option<Items<Value>>, AllocEr
 pub fn values_of(alloc: Global, text: &str) -> Result<Option<Items<Value>>, AllocError>
     ensures { IfOk result (λ values. values ≡ row_values text.now) }
 {
-    let Some(values) = value_list(alloc, text)? else {
+    let Some(values) = value_series(alloc, text)? else {
         return Ok(None);
     };
     if values.len() > MAX_VALUES {

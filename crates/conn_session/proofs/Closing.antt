@@ -1,5 +1,5 @@
 -- Servers are given back, one after the other.
-use Rattle.std.proofs.Common.{◌≡◌, ℕ, ◌+◌, List, [], ◌∷◌, ◌++◌, Option, Some, None, refl, ap, subst, ◌∙◌, arith}
+use Rattle.std.proofs.Common.{◌≡◌, ℕ, ◌+◌, ◌≤◌, List, [], ◌∷◌, ◌++◌, Option, Some, None, refl, ap, subst, ◌∙◌, arith}
 use Rattle.std.specs.Prelude.{sum_by}
 use Rattle.std.specs.List.{AllByRecursion}
 use Rattle.conn_model.specs.Seen.{Seen}
@@ -51,6 +51,15 @@ module _ (vs : List (Option View)) (old : Connected) (left rest : List (Option V
   gives-first v e = give_one v
       (λ f. omega (arith, ap (sum_by (part f)) e, Totals.sum-first f rest v))
       (λ P all. let both = subst (AllByRecursion (OfServer P)) e all in (both.1, both.0))
+
+-- the connector has room for the last of those that are out, and then for the first of those in slots
+pub last_room : (slots outs : List (Option View)) (old : Connected) (left rest : List (Option View)) (k : Connected) → GivesBackSome outs old left k → (v : Option View) → sum_by (part each_server) slots + sum_by (part each_server) outs ≤ old.room → left ≡ rest ++ v ∷ []
+    → part each_server v ≤ k.room
+last_room slots outs old left rest k so_far v room e = omega (arith, so_far.room, room, ap (sum_by (part each_server)) e, Totals.sum-last each_server rest v)
+
+pub first_room : (slots outs : List (Option View)) (old mid : Connected) (left rest : List (Option View)) (k : Connected) → GivesBackSome outs old [] mid → GivesBackSome slots mid left k → (v : Option View)
+    → sum_by (part each_server) slots + sum_by (part each_server) outs ≤ old.room → left ≡ v ∷ rest → part each_server v ≤ k.room
+first_room slots outs old mid left rest k outs_back so_far v room e = omega (arith, outs_back.room, so_far.room, room, ap (sum_by (part each_server)) e, Totals.sum-first each_server rest v)
 
 -- those that are out were given back, and then those in slots
 pub closes : (w : World) (mid new : Connected) → GivesBackSome w.pool.out w.connector [] mid → GivesBackSome w.pool.slots mid [] new → Closes w new

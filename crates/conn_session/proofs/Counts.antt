@@ -96,4 +96,4 @@ all_caused_by old new servers now (x ∷ xs) e same all = (
 )
 
 pub opening-refl : (w : World) → KeepsOpening w w
-opening-refl w = record { dialect = refl; url = refl; size = refl; queries = refl; plan = refl; aims = λ h. h }
+opening-refl w = record { dialect = refl; url = refl; size = refl; queries = refl; policy = refl; plan = refl; aims = λ h. h }

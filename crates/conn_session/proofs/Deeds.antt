@@ -134,7 +134,7 @@ module _ (honest tells : Bool) (honest_tells : honest ≡ true → tells ≡ tru
           later = omega arith;
           refusals_later = λ m. omega (arith, Totals.sum-set_at (refusals m) w.pool.out n v (Some u) there, Totals.refusals_later m v.seen u.seen does.same.number does.later);
         };
-        opening = record { dialect = refl; url = refl; size = refl; queries = refl; plan = refl; aims = λ h. h };
+        opening = record { dialect = refl; url = refl; size = refl; queries = refl; policy = refl; plan = refl; aims = λ h. h };
       }
 
       by_result : (result : Result Reply AllocError) → Does tells w.pool.queries deed v u result → DoesOn honest line n word deed w new (entered line word n new result)

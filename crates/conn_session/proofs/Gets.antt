@@ -1,25 +1,31 @@
 -- `get` where no slot is free, and where the front one has a connection.
-use Rattle.std.proofs.Common.{◌≡◌, ℕ, ◌+◌, Bool, List, [], ◌∷◌, Option, Some, None, refl, sym, ap, subst, ◌∙◌, arith, Ok}
-use Rattle.std.specs.Prelude.{slice_set, sum_by}
-use Rattle.conn_model.specs.Seen.{Seen}
+use Rattle.std.proofs.Common.{◌≡◌, ◌≢◌, ℕ, ◌<◌, Bool, true, false, List, [], ◌∷◌, Option, Some, None, refl, sym, ap, subst, ◌∙◌, Ok, Err}
+use Rattle.conn_result.specs.declared.error.Error.TheVariants.{OutOfMemory}
+use Rattle.conn_result.specs.declared.pool.Error.{Error as PoolError}
+use Rattle.conn_manager.specs.Manages.{Reply as Answer}
 use Rattle.conn_manager.specs.Views.{View}
-use Rattle.conn_reading.specs.Answered.{taken, reads_get, reads}
-use Rattle.conn_reading.specs.Seats.{Seat, Context, entry_on, entry_without}
+use Rattle.conn_reading.specs.Answered.{taken, reads_get, reads, refusal_of}
+use Rattle.conn_reading.specs.Asking.{check_deed, reply_as}
+use Rattle.conn_reading.specs.Seats.{Seat, entry_without}
+use Rattle.conn_reading.specs.declared.deed.Deed.{Deed}
+use Rattle.conn_reading.specs.declared.deed.Deed.TheVariants.{Close}
+use Rattle.conn_reading.proofs.InPlace.{kept_in_place, only}
 use Rattle.conn_report.specs.declared.entry.Entry.{Entry}
 use Rattle.conn_report.specs.declared.entry.Reply.TheVariants as replies
+use Rattle.conn_script.specs.declared.command.BlockKind.{BlockKind}
 use Rattle.conn_script.specs.declared.request.Request.TheVariants.{Get}
 use Rattle.conn_script.specs.declared.command.Word.TheVariants as words
-use Rattle.conn_session.specs.Known.{Has, progress}
-use Rattle.conn_session.specs.Transfers.{in_front, puts_out}
+use Rattle.conn_session.specs.Customizing.{AnswersIf}
+use Rattle.conn_session.specs.Known.{progress}
+use Rattle.conn_session.specs.Transfers.{in_front}
 use Rattle.conn_session.specs.Plays.{PlaysGet}
 use Rattle.conn_session.specs.Responses.{seat_of}
-use Rattle.conn_session.specs.Steps.{fault_of, Steps, IsLater}
-use Rattle.conn_session.specs.Worlds.{World, Invariant, part, refusals, context_of, seats_of}
-use Rattle.conn_session.proofs.Counts.{later-refl, no_cause, blocks_later, opening-refl}
-use Rattle.conn_session.proofs.Growing.{grows_nothing, everywhere-handed_out}
-use Rattle.conn_session.proofs.Moving.{handed_out, front_vacant, front_within}
-use Rattle.conn_session.proofs.Shown.{context-puts_out}
-use Rattle.conn_session.proofs.Totals
+use Rattle.conn_session.specs.Steps.{fault_of, Steps}
+use Rattle.conn_session.specs.Worlds.{World, Invariant, context_of, seats_of}
+use Rattle.conn_session.proofs.Counts.{later-refl, no_cause, opening-refl}
+use Rattle.conn_session.proofs.Fronts.{asked_keeps, if_answers, if_later, if_number, if_reads, if_refused}
+use Rattle.conn_session.proofs.Growing.{grows_nothing}
+use Rattle.conn_session.proofs.Served.{IsConnectorsIf, IsServersIf, Readies}
 
 -- no slot is free
 pub get_none : (honest : Bool) (line : ℕ) (w : World) (entry : Entry) → w.pool.slots ≡ [] → entry ≡ entry_without line words.Get None replies.NoneFree → Invariant w → Steps honest line Get w w (Ok entry)
@@ -27,33 +33,52 @@ get_none honest line w entry none entry_is holds =
     let slots : (context_of w).slots ≡ [] = ap seats_of none in
     record {
       keeps = record { holds = holds; counts = later-refl w; opening = opening-refl w };
-      plays_entry = subst (PlaysGet (fault_of w) line (context_of w) entry (context_of w)) (sym slots) (record { entry_is = entry_is; context_is = refl });
+      plays_entry = subst (PlaysGet (fault_of w) w.pool.policy line (context_of w) entry (context_of w)) (sym slots) (record { entry_is = entry_is; context_is = refl });
       caused = λ b. (no_cause w w entry replies.NoneFree (ap (λ (e : Entry). e.reply) entry_is) (λ h. h) (λ h. h), b);
       grows = λ _. grows_nothing (λ p logs. reads p logs line Get) w w entry (λ logs known. known)
           (λ logs. ap (λ (s : List (Option Seat)). reads_get (progress w) logs line s) slots ∙ ap (λ (e : Entry). Some (taken e (progress w) logs)) (sym entry_is));
     }
 
-module _ (honest : Bool) (line : ℕ) (w : World) where
-  -- the front slot has a connection
-  pub get_kept : (v : View) (entry : Entry) → entry ≡ entry_on line words.Get replies.Ok (seat_of v) → Invariant (in_front (Some v) w)
-      → Steps honest line Get (in_front (Some v) w) (record w { pool = puts_out v.seen.number (Some v) w.pool }) (Ok entry)
-  get_kept v entry entry_is holds =
-      let old : World = in_front (Some v) w in
-      let new : World = record w { pool = puts_out v.seen.number (Some v) w.pool } in
-      let sums : (f : Seen → ℕ) → sum_by (part f) (slice_set w.pool.out v.seen.number (Some v)) ≡ sum_by (part f) w.pool.out + f v.seen = λ f. Totals.sum-set_vacant f w.pool.out v.seen.number (Some v) (front_within w v holds) (front_vacant w v holds) in
-      let front : (f : Seen → ℕ) → sum_by (part f) (Some v ∷ w.pool.slots) ≡ f v.seen + sum_by (part f) w.pool.slots = λ f. Totals.sum-first f w.pool.slots (Some v) in
-      let shown = context-puts_out w v.seen.number (Some v) in
-      let counts : IsLater old new = record { later = omega arith; refusals_later = λ m. omega (arith, sums (refusals m), front (refusals m)) } in
-      record {
-        keeps = record {
-          holds = handed_out w v holds;
-          counts = counts;
-          opening = record { dialect = refl; url = refl; size = refl; queries = refl; plan = refl; aims = λ h. h };
-        };
-        plays_entry = record { entry_is = entry_is; context_is = shown };
-        caused = λ b. (no_cause old new entry replies.Ok (ap (λ (e : Entry). e.reply) entry_is) (λ h. h) (λ h. h), blocks_later old new refl counts b);
-        grows = λ _. grows_nothing (λ p logs. reads p logs line Get) old new entry
-            (λ logs known. record { servers = everywhere-handed_out (Has w.pool.dialect w.connector.armed logs) w v known.servers; fresh = known.fresh })
-            (λ logs. ap (λ (c : Context). Some (taken (entry_on line words.Get replies.Ok (seat_of v)) (record (progress old) { context = c }) logs)) (sym shown)
-            ∙ ap (λ (e : Entry). Some (taken e (progress new) logs)) (sym entry_is));
-      }
+-- the front slot has a connection, of which what is asked of kept ones was asked
+module _ (honest tells : Bool) (honest_tells : honest ≡ true → tells ≡ true) (line : ℕ) (w : World) (v u : View) (holds : Invariant (in_front (Some v) w)) (answer : Answer) (a : AnswersIf tells (check_deed w.pool.policy.check) v u answer) (memory : answer ≢ Err OutOfMemory) where
+  abbrev old : World
+  old = in_front (Some v) w
+
+  abbrev deed : Option Deed
+  deed = check_deed w.pool.policy.check
+
+  abbrev refusal : Option PoolError
+  refusal = refusal_of false (seat_of u) (reply_as answer)
+
+  -- a check closes no block
+  checks_apart : (check : Bool) (kind : BlockKind) (x : Answer) → check_deed check ≡ Some (Close kind x) → ⊥
+  checks_apart true kind x e = absurd (cc)
+  checks_apart false kind x e = absurd (cc)
+
+  refused : (x : Answer) → AnswersIf tells deed v u x → IsServersIf (refusal_of false (seat_of u) (reply_as x)) → 0 < u.seen.failures
+  refused (Ok t) b h = absurd h
+  refused (Err e) b h = if_refused tells deed v u e b h (checks_apart w.pool.policy.check)
+
+  not_connectors : (x : Answer) → IsConnectorsIf (refusal_of false (seat_of u) (reply_as x)) → ⊥
+  not_connectors (Ok t) h = h
+  not_connectors (Err e) h = h
+
+  pub ready_kept : Readies honest line old w u refusal
+  ready_kept = record {
+    keeps = asked_keeps w v u (if_number tells deed v u answer a) (if_later tells deed v u answer a) holds;
+    blocks = refl;
+    refused = refused answer a;
+    unopened = not_connectors answer;
+    reads = λ h logs known.
+        let r = if_reads tells line false w v u holds logs known (honest_tells h) deed answer a memory in
+        (only v.seen.number r.items, r.known, kept_in_place (progress old) line (seats_of w.pool.slots) (seat_of v) (seat_of u) r.items refusal refl r.reads);
+    plays = λ mark entry new entry_is context_is. record {
+      after = seat_of u;
+      reply = reply_as answer;
+      mark = mark;
+      numbered = if_number tells deed v u answer a;
+      answers = if_answers tells deed v u answer w a memory;
+      entry_is = entry_is;
+      context_is = context_is;
+    };
+  }

@@ -1,7 +1,8 @@
 -- Honest servers have their logs wherever they move, and commands that ask nothing read nothing.
-use Rattle.std.proofs.Common.{◌≡◌, ◌≢◌, ℕ, zero, suc, ◌+◌, ◌<◌, List, [], ◌∷◌, ◌++◌, append-nil, Option, Some, None, refl, sym, ap, subst, ◌∙◌, arith}
+use Rattle.std.proofs.Common.{◌≡◌, ◌≢◌, ℕ, zero, suc, ◌+◌, ◌<◌, List, [], ◌∷◌, ◌++◌, append-nil, Option, Some, None, refl, sym, ap, subst, ◌∙◌, arith, inl, inr}
 use Rattle.std.specs.Prelude.{slice_set, sum_by}
 use Rattle.std.specs.List.{AllByRecursion}
+use Rattle.std.proofs.lemmas.Bool.{cases_lt}
 use Rattle.std.proofs.lemmas.List.Sums.{sum_by-cons}
 use Rattle.conn_model.specs.Seen.{Seen}
 use Rattle.conn_model.specs.declared.item.Dialect.{Dialect}
@@ -25,11 +26,18 @@ module _ (P : Seen → Type 0) where
   pub everywhere-handed_out : (w : World) (v : View) → Everywhere P (in_front (Some v) w) → Everywhere P (record w { pool = puts_out v.seen.number (Some v) w.pool })
   everywhere-handed_out w v h = record { slots = h.slots.1; out = Totals.all-set P w.pool.out v.seen.number (Some v) h.slots.0 h.out; returned = h.returned }
 
-  pub everywhere-opened : (w : World) (k : Connected) (v : View) → k.returned ≡ w.connector.returned → P v.seen → Everywhere P (in_front None w) → Everywhere P (record { pool = adds_out (Some v) w.pool; connector = k })
+  pub everywhere-opened : (w : World) (k : Connected) (v : View) → k.returned ≡ w.connector.returned → P v.seen → Everywhere P (in_front None w) → Everywhere P (in_front (Some v) (record { pool = adds_out None w.pool; connector = k }))
   everywhere-opened w k v r here h = record {
-    slots = h.slots.1;
-    out = Totals.all-last (OfServer P) w.pool.out (Some v) h.out here;
+    slots = (here, h.slots.1);
+    out = Totals.all-last (OfServer P) w.pool.out None h.out tt;
     returned = subst (AllByRecursion P) (sym r) h.returned;
+  }
+
+  pub everywhere-closed : (w : World) (v : View) → Everywhere P (in_front (Some v) w) → Everywhere P (record { pool = gives_slot None w.pool; connector = takes_back v.seen w.connector })
+  everywhere-closed w v h = record {
+    slots = Totals.all-last (OfServer P) w.pool.slots None h.slots.1 tt;
+    out = h.out;
+    returned = Totals.all-last P w.connector.returned v.seen h.returned h.slots.0;
   }
 
   pub everywhere-opened_back : (w : World) (k : Connected) (s : Seen) → k.returned ≡ w.connector.returned → P s → Everywhere P (in_front None w) → Everywhere P (record { pool = adds_out None (gives_slot None w.pool); connector = takes_back s k })
@@ -176,5 +184,27 @@ known_grown logs items w n v u holds there has known =
     record {
       servers = everywhere-grown (Has w.pool.dialect w.connector.armed logs) (Has w.pool.dialect w.connector.armed (with_more logs (only m items))) w n v u holds there has
           (λ s e h. has_same w.pool.dialect w.connector.armed logs (with_more logs (only m items)) s (other s.number e) h) known.servers;
+      fresh = λ k l. other k (λ e. absurd (omega (arith, e, below, l))) ∙ known.fresh k l;
+    }
+
+-- or of the connection in the front slot
+pub known_front : (logs : ServerLogs) (items : List Item) (w : World) (v u : View) → Invariant (in_front (Some v) w) → Has w.pool.dialect w.connector.armed (with_more logs (only v.seen.number items)) u.seen → IsKnown logs (in_front (Some v) w)
+    → IsKnown (with_more logs (only v.seen.number items)) (in_front (Some u) w)
+known_front logs items w v u holds has known =
+    let m = v.seen.number in
+    let front = Totals.sum-first (of_number m) w.pool.slots (Some v) in
+    let mine = Totals.number_here m v.seen refl in
+    let below : m < w.connector.opened = elim (cases_lt m w.connector.opened) [
+      | inl l ↦ l
+      | inr le ↦ absurd (omega (arith, holds.accounts.none m le, front, mine))
+    ] in
+    let none : sum_all (of_number m) w ≡ 0 = omega (arith, holds.accounts.once m below, front, mine) in
+    let other : (k : ℕ) → k ≢ m → with_more logs (only m items) k ≡ logs k = λ k e. ap (λ (t : List Item). logs k ++ t) (only_other m k items e) ∙ append-nil (logs k) in
+    let rest : Everywhere (Has w.pool.dialect w.connector.armed logs) w = record { slots = known.servers.slots.1; out = known.servers.out; returned = known.servers.returned } in
+    let grown : Everywhere (Has w.pool.dialect w.connector.armed (with_more logs (only m items))) w =
+    everywhere-unopened (Has w.pool.dialect w.connector.armed logs) (Has w.pool.dialect w.connector.armed (with_more logs (only m items))) w m none
+    (λ s e h. has_same w.pool.dialect w.connector.armed logs (with_more logs (only m items)) s (other s.number e) h) rest in
+    record {
+      servers = record { slots = (has, grown.slots); out = grown.out; returned = grown.returned };
       fresh = λ k l. other k (λ e. absurd (omega (arith, e, below, l))) ∙ known.fresh k l;
     }

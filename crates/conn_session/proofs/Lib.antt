@@ -7,8 +7,6 @@ pub mod Counts
 pub mod Puts
 pub mod Aims
 pub mod Honest
-pub mod Gets
-pub mod Setups
 pub mod Finding
 pub mod Responses
 pub mod ShapeFaults
@@ -16,6 +14,13 @@ pub mod BlockAnswers
 pub mod Deeds
 pub mod Verbs
 pub mod Runs
+pub mod Fronts
+pub mod Served
+pub mod Gets
+pub mod Setups
+pub mod Pooled
+pub mod Checkouts
+pub mod Checkins
 pub mod Closing
 pub mod Ended
 pub mod Kept

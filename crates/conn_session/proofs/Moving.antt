@@ -9,9 +9,8 @@ use Rattle.conn_model.specs.Seen.{Seen}
 use Rattle.conn_manager.specs.Views.{View}
 use Rattle.conn_reading.specs.Seats.{at_number}
 use Rattle.conn_server.specs.Connected.{Connected, takes_back}
-use Rattle.conn_session.specs.Transfers.{TakesSlot, gives_slot, in_front, puts_out, adds_out, fills_places}
-use Rattle.conn_session.specs.Worlds.{Pool, World, Accounts, Invariant, part, sum_all, of_number, each_server, views_of, pool_of, world_of}
-use Rattle.conn_session.specs.declared.session.Session.{Session}
+use Rattle.conn_session.specs.Transfers.{gives_slot, in_front, puts_out, adds_out, fills_places}
+use Rattle.conn_session.specs.Worlds.{Pool, World, Accounts, Invariant, part, sum_all, of_number, each_server}
 use Rattle.conn_session.proofs.Totals
 
 -- where the sums of servers by their numbers are as before, so are the accounts
@@ -56,26 +55,54 @@ handed_out w v h =
       room = omega (arith, h.room, sums each_server, front each_server);
     }
 
--- a connection was opened for the empty slot in front
-pub opened_out : (w : World) (k : Connected) (v : View) → v.seen.number ≡ w.connector.opened → k.opened ≡ w.connector.opened + 1 → k.returned ≡ w.connector.returned → k.room ≡ w.connector.room + 1 → Invariant (in_front None w)
-    → Invariant (record { pool = adds_out (Some v) w.pool; connector = k })
-opened_out w k v numbered o r room h =
-    let new : World = record { pool = adds_out (Some v) w.pool; connector = k } in
+-- a connection was opened for the empty slot in front, and its number has a place
+pub opened_front : (w : World) (k : Connected) (v : View) → v.seen.number ≡ w.connector.opened → k.opened ≡ w.connector.opened + 1 → k.returned ≡ w.connector.returned → k.room ≡ w.connector.room + 1 → Invariant (in_front None w)
+    → Invariant (in_front (Some v) (record { pool = adds_out None w.pool; connector = k }))
+opened_front w k v numbered o r room h =
     let back : (f : Seen → ℕ) → sum_by f k.returned ≡ sum_by f w.connector.returned = λ f. ap (sum_by f) r in
-    let sums : (f : Seen → ℕ) → sum_by (part f) (w.pool.out ++ Some v ∷ []) ≡ sum_by (part f) w.pool.out + f v.seen = λ f. Totals.sum-last f w.pool.out (Some v) in
-    let front : (f : Seen → ℕ) → sum_by (part f) (None ∷ w.pool.slots) ≡ 0 + sum_by (part f) w.pool.slots = λ f. Totals.sum-first f w.pool.slots None in
+    let out : (f : Seen → ℕ) → sum_by (part f) (w.pool.out ++ None ∷ []) ≡ sum_by (part f) w.pool.out + 0 = λ f. Totals.sum-last f w.pool.out None in
+    let empty : (f : Seen → ℕ) → sum_by (part f) (None ∷ w.pool.slots) ≡ 0 + sum_by (part f) w.pool.slots = λ f. Totals.sum-first f w.pool.slots None in
+    let front : (f : Seen → ℕ) → sum_by (part f) (Some v ∷ w.pool.slots) ≡ f v.seen + sum_by (part f) w.pool.slots = λ f. Totals.sum-first f w.pool.slots (Some v) in
     record {
       accounts = record {
         once = λ n l. elim (cases_lt n w.connector.opened) [
-          | inl lt ↦ omega (arith, h.accounts.once n lt, sums (of_number n), back (of_number n), front (of_number n), Totals.number_other n v.seen (omega arith))
-          | inr le ↦ omega (arith, h.accounts.none n le, sums (of_number n), back (of_number n), front (of_number n), Totals.number_here n v.seen (omega arith))
+          | inl lt ↦ omega (arith, h.accounts.once n lt, out (of_number n), back (of_number n), empty (of_number n), front (of_number n), Totals.number_other n v.seen (omega arith))
+          | inr le ↦ omega (arith, h.accounts.none n le, out (of_number n), back (of_number n), empty (of_number n), front (of_number n), Totals.number_here n v.seen (omega arith))
         ];
-        none = λ n l. omega (arith, h.accounts.none n (omega arith), sums (of_number n), back (of_number n), front (of_number n), Totals.number_other n v.seen (omega arith));
+        none = λ n l. omega (arith, h.accounts.none n (omega arith), out (of_number n), back (of_number n), empty (of_number n), front (of_number n), Totals.number_other n v.seen (omega arith));
       };
-      places = length_push w.pool.out (Some v) ∙ omega (arith, h.places);
-      placed = Totals.placed-last 0 w.pool.out v (omega (arith, h.places)) h.placed;
-      slots = omega (arith, h.slots, sums each_server);
-      room = omega (arith, h.room, sums each_server, front each_server);
+      places = length_push w.pool.out None ∙ omega (arith, h.places);
+      placed = Totals.placed-none 0 w.pool.out h.placed;
+      slots = omega (arith, h.slots, out each_server);
+      room = omega (arith, h.room, out each_server, empty each_server, front each_server);
+    }
+
+-- the connection in the front slot was asked something, and is still over the same server
+pub asked_front : (w : World) (v u : View) → u.seen.number ≡ v.seen.number → Invariant (in_front (Some v) w) → Invariant (in_front (Some u) w)
+asked_front w v u same h =
+    let old : (f : Seen → ℕ) → sum_by (part f) (Some v ∷ w.pool.slots) ≡ f v.seen + sum_by (part f) w.pool.slots = λ f. Totals.sum-first f w.pool.slots (Some v) in
+    let new : (f : Seen → ℕ) → sum_by (part f) (Some u ∷ w.pool.slots) ≡ f u.seen + sum_by (part f) w.pool.slots = λ f. Totals.sum-first f w.pool.slots (Some u) in
+    record {
+      accounts = accounts_same (in_front (Some v) w) (in_front (Some u) w) refl (λ m. omega (arith, old (of_number m), new (of_number m), Totals.number_same m v.seen u.seen same)) h.accounts;
+      places = h.places;
+      placed = h.placed;
+      slots = h.slots;
+      room = omega (arith, h.room, old each_server, new each_server);
+    }
+
+-- the connection in the front slot was closed, and the slot is at the back, empty
+pub closed_front : (w : World) (v : View) → Invariant (in_front (Some v) w) → Invariant (record { pool = gives_slot None w.pool; connector = takes_back v.seen w.connector })
+closed_front w v h =
+    let new : World = record { pool = gives_slot None w.pool; connector = takes_back v.seen w.connector } in
+    let front : (f : Seen → ℕ) → sum_by (part f) (Some v ∷ w.pool.slots) ≡ f v.seen + sum_by (part f) w.pool.slots = λ f. Totals.sum-first f w.pool.slots (Some v) in
+    let slots : (f : Seen → ℕ) → sum_by (part f) (w.pool.slots ++ None ∷ []) ≡ sum_by (part f) w.pool.slots + 0 = λ f. Totals.sum-last f w.pool.slots None in
+    let back : (f : Seen → ℕ) → sum_by f (w.connector.returned ++ v.seen ∷ []) ≡ sum_by f w.connector.returned + f v.seen = λ f. Totals.sum-last_seen f w.connector.returned v.seen in
+    record {
+      accounts = accounts_same (in_front (Some v) w) new refl (λ m. omega (arith, front (of_number m), slots (of_number m), back (of_number m))) h.accounts;
+      places = h.places;
+      placed = h.placed;
+      slots = omega (arith, h.slots, length_push w.pool.slots None);
+      room = omega (arith, h.room, front each_server, slots each_server);
     }
 
 -- a server was opened and is back, and the empty slot in front went to the back
@@ -166,12 +193,6 @@ asked_out w n v u e same h =
 
 -- ---- of one move
 
--- the slot that was taken was in front
-pub front_taken : (old mid : Pool) (k : Connected) (slot : Option View) → TakesSlot old mid (Some slot) → let W : Type 0 = World in let w : W = record { pool = old; connector = k } in w ≡ in_front slot (record { pool = mid; connector = k })
-front_taken old mid k slot h =
-    ap (λ (p : Pool). record { pool = p; connector = k })
-    (ap (λ (s : List (Option View)). record old { slots = s }) h.0 ∙ sym (ap (λ (p : Pool). record p { slots = slot ∷ mid.slots }) h.1))
-
 -- an empty place stays
 pub vacant_same : (p : Pool) (n : ℕ) → at_number n p.out ≡ None → puts_out n None p ≡ p
 vacant_same p n e = ap (λ (out : List (Option View)). record p { out = out }) (Totals.set-vacant p.out n e)
@@ -183,11 +204,3 @@ slot_is_out w n v left there e h = omega (arith, h.slots, Totals.sum-at each_ser
 -- and the connector can take its server back
 pub room_is_there : (w : World) (n : ℕ) (v : View) → at_number n w.pool.out ≡ Some v → Invariant w → 1 ≤ w.connector.room
 room_is_there w n v there h = omega (arith, h.room, Totals.sum-at each_server w.pool.out n v there)
-
--- the same of code: memory was taken for a place, and then the slot, which has a connection
-pub front_is : {C : Type 0} (view : C → View) (old mid : Session C) (out : List (Option C)) (k : Connected) (slot : Option C) (c : C)
-    → out ≡ old.out.items → slot ≡ Some c → TakesSlot (record (pool_of view old) { out = views_of view out }) (pool_of view mid) (Some (option_map view slot)) → world_of view old k ≡ in_front (Some (view c)) (world_of view mid k)
-front_is {C = C} view old mid out k slot c same has taken =
-    front_taken (pool_of view old) (pool_of view mid) k (Some (view c))
-    (subst (λ (o : List (Option C)). TakesSlot (record (pool_of view old) { out = views_of view o }) (pool_of view mid) (Some (Some (view c)))) same
-    (subst (λ (o : Option C). TakesSlot (record (pool_of view old) { out = views_of view out }) (pool_of view mid) (Some (option_map view o))) has taken))

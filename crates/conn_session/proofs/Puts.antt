@@ -45,13 +45,13 @@ module _ (honest : Bool) (line n : ℕ) (w : World) (entry : Entry) where
   -- what is said of both ways to give a connection back
   module _ (v : View) (new : World) (there : at_number n w.pool.out ≡ Some v) (entry_is : entry ≡ entry_on line words.Put (put_reply v.status) (seat_of v)) where
     given_back : context_of new ≡ record (context_of w) { slots = (context_of w).slots ++ put_slot (seat_of v) ∷ []; out = slice_set (context_of w).out n None } → Invariant new → IsLater w new → new.pool.blocks ≡ w.pool.blocks
-        → progress new ≡ record (progress w) { context = context_of new } → new.pool.dialect ≡ w.pool.dialect → new.pool.url ≡ w.pool.url → new.pool.size ≡ w.pool.size → new.pool.queries ≡ w.pool.queries → new.connector.targets ≡ w.connector.targets → new.connector.armed ≡ w.connector.armed
+        → progress new ≡ record (progress w) { context = context_of new } → new.pool.dialect ≡ w.pool.dialect → new.pool.url ≡ w.pool.url → new.pool.size ≡ w.pool.size → new.pool.queries ≡ w.pool.queries → new.pool.policy ≡ w.pool.policy → new.connector.targets ≡ w.connector.targets → new.connector.armed ≡ w.connector.armed
         → ((logs : ServerLogs) → IsKnown logs w → IsKnown logs new) → Steps honest line (Put n) w new (Ok entry)
-    given_back shown holds counts blocks progress_is d t s q a p kept = record {
+    given_back shown holds counts blocks progress_is d t s q y a p kept = record {
       keeps = record {
         holds = holds;
         counts = counts;
-        opening = record { dialect = d; url = t; size = s; queries = q; plan = p; aims = λ h. subst (AreAt w.pool.dialect w.pool.url) (sym a) h };
+        opening = record { dialect = d; url = t; size = s; queries = q; policy = y; plan = p; aims = λ h. subst (AreAt w.pool.dialect w.pool.url) (sym a) h };
       };
       plays_entry = subst (PlaysPut line n (context_of w) entry (context_of new)) (sym (seats-at w.pool.out n (Some v) there)) (record { entry_is = entry_is; context_is = shown });
       caused = λ b. (no_cause w new entry (put_reply v.status) (ap (λ (e : Entry). e.reply) entry_is) (put_not_refused v.status) (put_not_unopened v.status), blocks_later w new blocks counts b);
@@ -74,7 +74,7 @@ module _ (honest : Bool) (line n : ℕ) (w : World) (entry : Entry) where
       (context-gives_slot w n None (Some v) ∙ ap (λ (s : Option Seat). record (context_of w) { slots = (context_of w).slots ++ s ∷ []; out = slice_set (context_of w).out n None }) (sym (slot_kept (is_kept v.status) (seat_of v) kept)))
       (kept_back w n v there holds)
       (record { later = omega arith; refusals_later = λ m. omega (arith, out (refusals m), slots (refusals m)) })
-      refl refl refl refl refl refl refl refl
+      refl refl refl refl refl refl refl refl refl
       (λ logs known. record { servers = everywhere-kept_back (Has w.pool.dialect w.connector.armed logs) w n v there known.servers; fresh = known.fresh })
 
   -- the connection is closed, and the slot at the back is empty
@@ -90,5 +90,5 @@ module _ (honest : Bool) (line n : ℕ) (w : World) (entry : Entry) where
       (context-gives_slot w n None None ∙ ap (λ (s : Option Seat). record (context_of w) { slots = (context_of w).slots ++ s ∷ []; out = slice_set (context_of w).out n None }) (sym (slot_closed (is_kept v.status) (seat_of v) closed)))
       (closed_back w n v there holds)
       (record { later = omega arith; refusals_later = λ m. omega (arith, out (refusals m), slots (refusals m), back (refusals m)) })
-      refl refl refl refl refl refl refl refl
+      refl refl refl refl refl refl refl refl refl
       (λ logs known. record { servers = everywhere-closed_back (Has w.pool.dialect w.connector.armed logs) w n v there known.servers; fresh = known.fresh })

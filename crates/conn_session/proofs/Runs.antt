@@ -4,6 +4,7 @@ use Rattle.conn_report.specs.declared.entry.Entry.{Entry}
 use Rattle.conn_script.specs.Requests.{request_of}
 use Rattle.conn_script.specs.declared.command.Command.{Command}
 use Rattle.conn_reading.specs.Answered.{reads}
+use Rattle.conn_reading.specs.Asking.{Policy}
 use Rattle.conn_reading.specs.Seats.{Context}
 use Rattle.conn_reading.proofs.InOrder.{ReadsAll-none, ReadsAll-push}
 use Rattle.conn_model.specs.declared.item.Dialect.{Dialect}
@@ -24,6 +25,7 @@ opening-trans a b c p q = record {
   url = q.url ∙ p.url;
   size = q.size ∙ p.size;
   queries = q.queries ∙ p.queries;
+  policy = q.policy ∙ p.policy;
   plan = q.plan ∙ p.plan;
   aims = λ h.
       let before = subst (λ (d : Dialect). AreAt d b.pool.url b.connector.targets) (sym p.dialect) (subst (λ (url : List ℕ). AreAt a.pool.dialect url b.connector.targets) (sym p.url) (p.aims h)) in
@@ -41,12 +43,12 @@ keeps-trans a b c p q = record { holds = q.holds; counts = later-trans a b c p.c
 
 -- ---- the entries
 
-PlaysAll-push : (fault : Option ConnectionError) (a b c : Context) (commands : List Command) (entries : List Entry) (command : Command) (entry : Entry) → PlaysAll fault a commands entries b → Plays fault command.line (request_of command.act) b entry c
-    → PlaysAll fault a (commands ++ command ∷ []) (entries ++ entry ∷ []) c
-PlaysAll-push fault a b c [] [] command entry so_far more = (c, subst (λ (x : Context). Plays fault command.line (request_of command.act) x entry c) so_far more, refl)
-PlaysAll-push fault a b c [] (e ∷ es) command entry so_far more = absurd so_far
-PlaysAll-push fault a b c (d ∷ ds) [] command entry so_far more = absurd so_far
-PlaysAll-push fault a b c (d ∷ ds) (e ∷ es) command entry so_far more = (so_far.0, so_far.1, PlaysAll-push fault so_far.0 b c ds es command entry so_far.2 more)
+PlaysAll-push : (fault : Option ConnectionError) (policy : Policy) (a b c : Context) (commands : List Command) (entries : List Entry) (command : Command) (entry : Entry) → PlaysAll fault policy a commands entries b → Plays fault policy command.line (request_of command.act) b entry c
+    → PlaysAll fault policy a (commands ++ command ∷ []) (entries ++ entry ∷ []) c
+PlaysAll-push fault policy a b c [] [] command entry so_far more = (c, subst (λ (x : Context). Plays fault policy command.line (request_of command.act) x entry c) so_far more, refl)
+PlaysAll-push fault policy a b c [] (e ∷ es) command entry so_far more = absurd so_far
+PlaysAll-push fault policy a b c (d ∷ ds) [] command entry so_far more = absurd so_far
+PlaysAll-push fault policy a b c (d ∷ ds) (e ∷ es) command entry so_far more = (so_far.0, so_far.1, PlaysAll-push fault policy so_far.0 b c ds es command entry so_far.2 more)
 
 grows-none : (w : World) → GrowsAll w w [] []
 grows-none w = λ logs known. ((λ n. []), known_same logs (with_more logs (λ n. [])) w (λ n. append-nil (logs n)) known, ReadsAll-none (progress w))
@@ -67,8 +69,9 @@ runs-none honest w = record { plays_entries = refl; caused = λ b. (tt, b); grow
 pub runs-push : (honest : Bool) (start old new : World) (commands : List Command) (command : Command) (entries : List Entry) (entry : Entry) → KeepsAll start old → RunsAll honest commands start old entries
     → Steps honest command.line (request_of command.act) old new (Ok entry) → RunsAll honest (commands ++ command ∷ []) start new (entries ++ entry ∷ [])
 runs-push honest start old new commands command entries entry keeps r s = record {
-  plays_entries = PlaysAll-push (fault_of start) (context_of start) (context_of old) (context_of new) commands entries command entry r.plays_entries
-      (subst (λ (fault : Option ConnectionError). Plays fault command.line (request_of command.act) (context_of old) entry (context_of new)) (fault_same start old keeps.opening) s.plays_entry);
+  plays_entries = PlaysAll-push (fault_of start) start.pool.policy (context_of start) (context_of old) (context_of new) commands entries command entry r.plays_entries
+      (subst (λ (policy : Policy). Plays (fault_of start) policy command.line (request_of command.act) (context_of old) entry (context_of new)) keeps.opening.policy
+      (subst (λ (fault : Option ConnectionError). Plays fault old.pool.policy command.line (request_of command.act) (context_of old) entry (context_of new)) (fault_same start old keeps.opening) s.plays_entry));
   caused = λ b.
       let first = r.caused b in
       let second = s.caused first.1 in

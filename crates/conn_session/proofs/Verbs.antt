@@ -262,7 +262,7 @@ told_keeps : (n : ℕ) (verb : Verb) (reply : Reply) (old mid : World) → Keeps
 told_keeps n verb reply old mid k = record {
   holds = record { accounts = record { once = k.holds.accounts.once; none = k.holds.accounts.none }; places = k.holds.places; placed = k.holds.placed; slots = k.holds.slots; room = k.holds.room };
   counts = record { later = k.counts.later; refusals_later = k.counts.refusals_later };
-  opening = record { dialect = k.opening.dialect; url = k.opening.url; size = k.opening.size; queries = k.opening.queries; plan = k.opening.plan; aims = k.opening.aims };
+  opening = record { dialect = k.opening.dialect; url = k.opening.url; size = k.opening.size; queries = k.opening.queries; policy = k.opening.policy; plan = k.opening.plan; aims = k.opening.aims };
 }
 
 told_known : (n : ℕ) (verb : Verb) (reply : Reply) (logs : ServerLogs) (w : World) → IsKnown logs w → IsKnown logs (tells_blocks n verb reply w)

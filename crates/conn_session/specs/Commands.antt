@@ -10,6 +10,7 @@ use Rattle.conn_model.specs.declared.item.Dialect.{Dialect}
 use Rattle.conn_model.specs.declared.item.Item.{Item}
 use Rattle.conn_cache.specs.Turns.{IsRising}
 use Rattle.conn_reading.specs.Answered.{ServerLogs, answered, servers_opened, started}
+use Rattle.conn_reading.specs.Asking.{Policy, policy_of}
 use Rattle.conn_reading.specs.Folds.{refuses_transaction}
 use Rattle.conn_reading.specs.Owning.{EachOwn, names_of}
 use Rattle.conn_reading.specs.Prepared.{EachOnce}
@@ -57,33 +58,33 @@ abbrev pub kept_by : Dialect → List Item → Option Writes
 kept_by d log = option_map kept (state_of d log)
 
 -- under the premises of the fold a server keeps the fold of all its entries
-abbrev pub FoldsOf : Dialect → ServerLogs → List Command → List Entry → ℕ → Type 0
-FoldsOf d logs commands entries n =
-    is_opened n entries ≡ true → EntryPremises d n (logs n) commands entries
-    → kept_by d (logs n) ≡ Some (fold_entries n (logs n) commands entries unfolded).stack.lowest
+abbrev pub FoldsOf : Dialect → Policy → ServerLogs → List Command → List Entry → ℕ → Type 0
+FoldsOf d policy logs commands entries n =
+    is_opened n entries ≡ true → EntryPremises d policy n (logs n) commands entries
+    → kept_by d (logs n) ≡ Some (fold_entries n (logs n) commands entries (unfolded policy)).stack.lowest
 
 -- these premises hold of each server that was opened and refused no text of a transaction, where what the dialect leaves of them does
-abbrev pub HasPremises : Dialect → ServerLogs → List Command → List Entry → ℕ → Type 0
-HasPremises d logs commands entries n = is_opened n entries ≡ true
-    → list_any refuses_transaction (logs n) ≡ false → PremisesLeft d n (logs n) commands entries
-    → EntryPremises d n (logs n) commands entries
+abbrev pub HasPremises : Dialect → Policy → ServerLogs → List Command → List Entry → ℕ → Type 0
+HasPremises d policy logs commands entries n = is_opened n entries ≡ true
+    → list_any refuses_transaction (logs n) ≡ false → PremisesLeft d policy n (logs n) commands entries
+    → EntryPremises d policy n (logs n) commands entries
 
 -- the logs bear the entries out: each status up to its mark, each depth over its server, no open transaction but a test's where
 -- `get` hands out; and
 -- under the premises of the fold a server held, after each entry of its connection, the stack of the fold up to it
-pub record AreBorneOutBy (d : Dialect) (logs : ServerLogs) (commands : List Command) (entries : List Entry) : Type 0 where
+pub record AreBorneOutBy (d : Dialect) (policy : Policy) (logs : ServerLogs) (commands : List Command) (entries : List Entry) : Type 0 where
   pub verdicts : EachVerdict d logs entries
   pub depths : EachStandsOver d logs entries
   pub clean : EachClean entries
-  pub nested : (n : ℕ) → EntryPremises d n (logs n) commands entries
-      → EachNested d n (logs n) commands entries unfolded
-  pub folds : (n : ℕ) → FoldsOf d logs commands entries n
-  pub premises : (n : ℕ) → HasPremises d logs commands entries n
+  pub nested : (n : ℕ) → EntryPremises d policy n (logs n) commands entries
+      → EachNested d n (logs n) commands entries (unfolded policy)
+  pub folds : (n : ℕ) → FoldsOf d policy logs commands entries n
+  pub premises : (n : ℕ) → HasPremises d policy logs commands entries n
 
 -- so do the logs of the servers that are back
 abbrev pub AreBorneOut : Script → Connected → List Entry → Type 0
 AreBorneOut script k entries =
-    AreBorneOutBy script.dialect (logs_of k.returned) script.commands entries
+    AreBorneOutBy script.dialect (policy_of script) (logs_of k.returned) script.commands entries
 
 -- some bytes stand for the script
 pub record IsParsed (script : Script) : Type 0 where
@@ -101,10 +102,15 @@ pub record HasOwnStatements (script : Script) (logs : ServerLogs) (entries : Lis
   pub once : EachOnce (started script) logs script.commands
   pub rising : (n : ℕ) → is_opened n entries ≡ true → IsRising 0 (names_of (logs n))
 
+-- a session of the script may give these entries
+abbrev pub IsScriptPlayed : Script → List Entry → Type 0
+IsScriptPlayed script entries =
+    IsPlayed (url_fault script.dialect script.url) (policy_of script) script.max_size script.commands entries
+
 -- the commands of a script were run, and all servers are back; over an honest connector that was armed with the script's plan
 -- the logs answer the entries
 pub record RunsScript (honest : Bool) (script : Script) (old k : Connected) (entries : List Entry) : Type 0 where
-  pub played : IsPlayed (url_fault script.dialect script.url) script.commands entries
+  pub played : IsScriptPlayed script entries
   pub caused : AreCaused old k entries
   pub answered : honest ≡ true → old.attempts ≡ 0 → old.armed ≡ script.plan → IsAnswered script k entries
   pub kept : honest ≡ true → EachTold script.dialect k (λ n. writes_by true n k.returned)
@@ -115,7 +121,7 @@ pub record RunsScript (honest : Bool) (script : Script) (old k : Connected) (ent
 -- the entries to the script and bear them out, have the commands' own statements, and keep the writes that are told, none of them
 -- untold
 pub record Transcribes (honest tells : Bool) (script : Script) (old k : Connected) (t : Transcript) : Type 0 where
-  pub entries : IsPlayed (url_fault script.dialect script.url) script.commands t.entries
+  pub entries : IsScriptPlayed script t.entries
   pub servers : t.servers ≡ servers_of tells k.opened k.returned
   pub caused : AreCaused old k t.entries
   pub aimed : AreAt script.dialect script.url old.targets → AreAt script.dialect script.url k.targets

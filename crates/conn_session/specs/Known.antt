@@ -39,7 +39,7 @@ pub record IsKnown (logs : ServerLogs) (w : World) : Type 0 where
 
 -- where the reading of the logs stands
 abbrev pub progress : World → Progress
-progress w = record { context = context_of w; attempts = w.connector.attempts; plan = w.connector.armed; armed = armed_of w.connector.armed; queries = w.pool.queries; dialect = w.pool.dialect; url = w.pool.url }
+progress w = record { context = context_of w; attempts = w.connector.attempts; plan = w.connector.armed; armed = armed_of w.connector.armed; queries = w.pool.queries; dialect = w.pool.dialect; url = w.pool.url; policy = w.pool.policy }
 
 -- the logs with these items more
 abbrev pub with_more : ServerLogs → ServerLogs → ServerLogs

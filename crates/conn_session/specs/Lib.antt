@@ -1,4 +1,5 @@
 pub mod Responses
+pub mod Customizing
 pub mod Finds
 pub mod Worlds
 pub mod Accounts

@@ -1,12 +1,15 @@
 -- What a connection shows, and what it does for a command.
-use Rattle.std.specs.Prelude.{◌≡◌, ◌≢◌, ◌≤◌, ◌⊎◌, ℕ, Bool, true, false, ⊤, List, [], Option, Some, None, Result, Ok, Err, IfOk, MatchResult}
-use Rattle.std.specs.Option.{unwrap_or}
+use Rattle.std.specs.Prelude.{◌≡◌, ◌≢◌, ◌≤◌, ◌⊎◌, ℕ, Bool, true, false, ⊤, List, [], Option, Some, None, Result, Ok, Err, IfOk, IsErr}
+use Rattle.std.specs.Option.{option_and_then, unwrap_or}
 use Rattle.std.specs.declared.alloc.AllocError.{AllocError}
 use Rattle.conn_result.specs.Causes.{Rose}
-use Rattle.conn_result.specs.declared.error.ConnectionError.{ConnectionError}
-use Rattle.conn_result.specs.declared.error.ConnectionError.TheVariants.{BadConnection, CouldntSetupConfiguration, OutOfMemory as no_memory}
+use Rattle.conn_result.specs.declared.error.ConnectionError.TheVariants.{BadConnection, CouldntSetupConfiguration}
 use Rattle.conn_result.specs.declared.error.Error.{Error}
 use Rattle.conn_result.specs.declared.error.Error.TheVariants.{DatabaseError, InvalidCString, OutOfMemory}
+use Rattle.conn_result.specs.declared.pool.Error.{Error as PoolError}
+use Rattle.conn_result.specs.declared.pool.Error.TheVariants as pooling
+use Rattle.conn_result.specs.declared.pool.PoolError.{PoolError as PoolRefusal}
+use Rattle.conn_result.specs.declared.pool.PoolError.TheVariants as refusals
 use Rattle.conn_model.specs.Acts.{Acts, IsSameServer}
 use Rattle.conn_model.specs.Nuls.{nul_place}
 use Rattle.conn_model.specs.Seen.{Seen, state_seen}
@@ -49,20 +52,21 @@ abbrev pub IsTextError : List ℕ → Error → Type 0
 IsTextError text (InvalidCString place) = nul_place text ≡ Some place
 IsTextError text e = IsServerError e
 
--- no connection was made, since its server refused a text of the setup
-abbrev pub IsSetupRefused : ConnectionError → Type 0
-IsSetupRefused (CouldntSetupConfiguration e n) = IsRefusal (Err e)
-IsSetupRefused _ = ⊥
+-- no connection was handed out, since a server refused: a text of the setup, or what was asked of the connection
+abbrev pub IsServers : PoolError → Type 0
+IsServers (pooling.ConnectionError (CouldntSetupConfiguration e n)) = IsRefusal (Err e)
+IsServers (pooling.QueryError e n) = IsRefusal (Err e)
+IsServers _ = ⊥
 
 -- the reply hands on a refusal of a server
 abbrev pub IsRefused : Reply → Type 0
 IsRefused (replies.Error e) = IsRefusal (Err e)
-IsRefused (replies.Pool e) = IsSetupRefused e
+IsRefused (replies.Pool e) = IsServers e
 IsRefused _ = ⊥
 
 -- the connector refused
-abbrev pub IsConnectors : ConnectionError → Type 0
-IsConnectors (BadConnection code) = ⊤
+abbrev pub IsConnectors : PoolError → Type 0
+IsConnectors (pooling.ConnectionError (BadConnection code)) = ⊤
 IsConnectors _ = ⊥
 
 -- the reply hands on a refusal of the connector
@@ -70,15 +74,27 @@ abbrev pub IsUnopened : Reply → Type 0
 IsUnopened (replies.Pool e) = IsConnectors e
 IsUnopened _ = ⊥
 
--- the entry of an attempt that gave no connection: where a server was opened, its number, and how many items its log has where
--- that is told
-abbrev pub unopened_entry : ℕ → ConnectionError → List Seen → Entry
-unopened_entry line (CouldntSetupConfiguration e n) returned = make_entry line words.Get (Some n) (replies.Pool (CouldntSetupConfiguration e n)) None (sent_by n returned)
-unopened_entry line e returned = entry_without line words.Get None (replies.Pool e)
+-- the connection that was closed where none was handed out
+abbrev pub closed_number : PoolError → Option ℕ
+closed_number (pooling.ConnectionError (CouldntSetupConfiguration e n)) = Some n
+closed_number (pooling.QueryError e n) = Some n
+closed_number (pooling.LeftOpen n) = Some n
+closed_number _ = None
 
--- an attempt gave no connection; want of memory has no entry
-abbrev pub ShowsUnopened : ℕ → ConnectionError → List Seen → Result Entry AllocError → Type 0
-ShowsUnopened line e returned result = MatchResult result (λ entry. (e ≢ no_memory) × (entry ≡ unopened_entry line e returned)) (λ _. e ≡ no_memory)
+-- the entry of a `get` that handed no connection out: where one was closed, its number, and how many items its server's log has
+-- where that is told
+abbrev pub unserved_entry : ℕ → PoolError → List Seen → Entry
+unserved_entry line e returned = make_entry line words.Get (closed_number e) (replies.Pool e) None (option_and_then (λ (n : ℕ). sent_by n returned) (closed_number e))
+
+-- no connection was handed out for an error of the front slot; want of memory has no entry
+abbrev pub ShowsError : ℕ → PoolError → List Seen → Result Entry AllocError → Type 0
+ShowsError line pooling.OutOfMemory returned result = IsErr result
+ShowsError line e returned result = result ≡ Ok (unserved_entry line e returned)
+
+-- no connection was handed out
+abbrev pub ShowsUnserved : ℕ → PoolRefusal → List Seen → Result Entry AllocError → Type 0
+ShowsUnserved line (refusals.Error e) returned result = ShowsError line e returned result
+ShowsUnserved line _ returned result = result ≡ Ok (entry_without line words.Get None replies.NoneFree)
 
 -- the errors of a deed: a text is refused by its server or stopped by its NUL, and a size of the cache has none; want of memory
 -- is no reply

@@ -50,13 +50,14 @@ IsCausedState servers n _ = ⊤
 abbrev pub AreBlocksCaused : World → Type 0
 AreBlocksCaused w = AllByRecursion (λ (b : Block). IsCausedState (λ n. sum_all (refusals n) w) b.connection b.state) w.pool.blocks
 
--- what no command changes: how connections are opened, how many slots there are, the queries, the plan, and that attempts are at
--- the URL
+-- what no command changes: how connections are opened, how many slots there are, the queries, what `get` asks, the plan, and that
+-- attempts are at the URL
 pub record KeepsOpening (old new : World) : Type 0 where
   pub dialect : new.pool.dialect ≡ old.pool.dialect
   pub url : new.pool.url ≡ old.pool.url
   pub size : new.pool.size ≡ old.pool.size
   pub queries : new.pool.queries ≡ old.pool.queries
+  pub policy : new.pool.policy ≡ old.pool.policy
   pub plan : new.connector.armed ≡ old.connector.armed
   pub aims : AreAt old.pool.dialect old.pool.url old.connector.targets → AreAt old.pool.dialect old.pool.url new.connector.targets
 
@@ -80,7 +81,7 @@ fault_of w = url_fault w.pool.dialect w.pool.url
 
 -- one command
 abbrev pub Steps : Bool → ℕ → Request → World → World → Result Entry AllocError → Type 0
-Steps honest line request old new result = StepsBy (Plays (fault_of old) line request) (λ p logs. reads p logs line request) honest old new result
+Steps honest line request old new result = StepsBy (Plays (fault_of old) old.pool.policy line request) (λ p logs. reads p logs line request) honest old new result
 
 -- the entry of a deed on connection n: a refusal in it was counted, or is that of the block which closes
 pub record IsCausedOn (n : ℕ) (deed : Deed) (new : World) (entry : Entry) : Type 0 where
@@ -126,7 +127,7 @@ AnswersVerb honest n verb old new result = (line : ℕ) → StepsDeed honest lin
 
 -- some commands, with their entries in order
 pub record RunsAll (honest : Bool) (commands : List Command) (old new : World) (entries : List Entry) : Type 0 where
-  pub plays_entries : PlaysAll (fault_of old) (context_of old) commands entries (context_of new)
+  pub plays_entries : PlaysAll (fault_of old) old.pool.policy (context_of old) commands entries (context_of new)
   pub caused : AreBlocksCaused old → AllByRecursion (IsCausedIn old new) entries × AreBlocksCaused new
   pub grows : honest ≡ true → GrowsAll old new commands entries
 

@@ -1,5 +1,5 @@
 -- How servers and slots move between the pool, the connections that are out, and the connector.
-use Rattle.std.specs.Prelude.{ℕ, ◌+◌, ◌≡◌, ◌≤◌, List, [], ◌∷◌, ◌++◌, length, nat_lt, if◌then◌else◌, slice_set, sum_by, Option, Some, None}
+use Rattle.std.specs.Prelude.{ℕ, ◌+◌, ◌≡◌, ◌≤◌, List, [], ◌∷◌, ◌++◌, slice_set, sum_by, Option, Some, None}
 use Rattle.std.specs.List.{AllByRecursion}
 use Rattle.conn_model.specs.Seen.{Seen}
 use Rattle.conn_model.specs.declared.item.Dialect.{Dialect}
@@ -11,12 +11,7 @@ use Rattle.conn_reading.specs.Answered.{ServerLogs}
 use Rattle.conn_reading.specs.Blocks.{blocks_after}
 use Rattle.conn_server.specs.Connected.{Connected, takes_back}
 use Rattle.conn_session.specs.Known.{Has, OfServer}
-use Rattle.conn_session.specs.Worlds.{Pool, World, part, each_server}
-
--- the front slot was taken, where there is one
-abbrev pub TakesSlot : Pool → Pool → Option (Option View) → Type 0
-TakesSlot old new None = (old.slots ≡ []) × (new ≡ old)
-TakesSlot old new (Some slot) = (old.slots ≡ slot ∷ new.slots) × (new ≡ record old { slots = new.slots })
+use Rattle.conn_session.specs.Worlds.{Pool, World, filled_to, part, each_server}
 
 -- a slot is at the back
 abbrev pub gives_slot : Option View → Pool → Pool
@@ -36,7 +31,7 @@ adds_out view p = record p { out = p.out ++ view ∷ [] }
 
 -- a place for each server that was opened, where one was opened since
 abbrev pub fills_places : ℕ → Pool → Pool
-fills_places opened p = if nat_lt (length p.out) opened then adds_out None p else p
+fills_places opened p = record p { out = filled_to opened p.out }
 
 -- the reply to a command of connection n told the blocks
 abbrev pub tells_blocks : ℕ → Verb → Reply → World → World

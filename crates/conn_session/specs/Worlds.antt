@@ -1,18 +1,23 @@
 -- What a session and its connector show: the pool with its connections, and both together.
-use Rattle.std.specs.Prelude.{ℕ, suc, ◌+◌, ◌≡◌, ◌<◌, ◌≤◌, ◌==◌, ⊤, List, [], ◌∷◌, length, map, sum_by, Option, Some, None, if◌then◌else◌}
+use Rattle.std.specs.Prelude.{ℕ, suc, ◌+◌, ◌≡◌, ◌<◌, ◌≤◌, ◌==◌, ⊤, Bool, nat_lt, List, [], ◌∷◌, ◌++◌, length, map, replicate, sum_by, Option, Some, None, if◌then◌else◌}
 use Rattle.std.specs.Option.{option_map}
 use Rattle.conn_model.specs.Seen.{Seen}
 use Rattle.conn_model.specs.declared.item.Dialect.{Dialect}
 use Rattle.conn_manager.specs.Views.{View}
+use Rattle.conn_pool.specs.Managers.{Managed, managed}
+use Rattle.conn_pool.specs.SlotViews.{SlotView}
+use Rattle.conn_pool.specs.declared.pooled.PooledConnection.{PooledConnection}
+use Rattle.conn_reading.specs.Asking.{Policy}
 use Rattle.conn_reading.specs.Seats.{Seat, Context}
 use Rattle.conn_reading.specs.declared.blocks.Block.{Block}
+use Rattle.conn_script.specs.declared.command.Customizer.{Customizer}
 use Rattle.conn_script.specs.declared.query.Declared.{Declared}
 use Rattle.conn_server.specs.Connected.{Connected}
 use Rattle.conn_session.specs.Responses.{seat_of}
 use Rattle.conn_session.specs.declared.session.Session.{Session}
 
 -- How connections are opened, how many slots there are, the slots that aren't handed out, front first, the connections that
--- are, each at the place of its number, the open blocks, innermost first, and the queries that commands name.
+-- are, each at the place of its number, the open blocks, innermost first, the queries that commands name, and what `get` asks.
 pub record Pool : Type 0 where
   pub dialect : Dialect
   pub url : List ℕ
@@ -21,29 +26,48 @@ pub record Pool : Type 0 where
   pub out : List (Option View)
   pub blocks : List Block
   pub queries : List Declared
+  pub policy : Policy
 
 -- a pool, and the connector from which its servers come
 pub record World : Type 0 where
   pub pool : Pool
   pub connector : Connected
 
--- a pool of one empty slot
-abbrev pub new_pool : Dialect → List ℕ → List Declared → Pool
-new_pool dialect url queries = record { dialect = dialect; url = url; size = 1; slots = None ∷ []; out = []; blocks = []; queries = queries }
+-- what `get` asks, by its parts
+abbrev pub policy_with : Customizer → Bool → Policy
+policy_with customizer check = record { customizer = customizer; check = check }
+
+-- a pool of so many empty slots
+abbrev pub new_pool : Dialect → List ℕ → ℕ → Policy → List Declared → Pool
+new_pool dialect url size policy queries = record { dialect = dialect; url = url; size = size; slots = replicate size None; out = []; blocks = []; queries = queries; policy = policy }
 
 -- connections, by what each shows
 module _ {C : Type 0} (view : C → View) where
-  -- what connections show, where they are
-  abbrev pub views_of : List (Option C) → List (Option View)
-  views_of cs = map (option_map view) cs
+  -- what pooled connections show, where they are
+  abbrev pub views_of : List (Option (PooledConnection C)) → List (Option View)
+  views_of places = map (option_map (λ (p : PooledConnection C). view p.connection)) places
 
-  -- what a session shows
-  abbrev pub pool_of : Session C → Pool
-  pool_of s = record { dialect = s.dialect; url = s.url; size = s.size; slots = views_of s.slots.items; out = views_of s.out.items; blocks = s.blocks; queries = s.queries }
+  -- what the connections show that slots keep
+  abbrev pub kept_views : List (SlotView C) → List (Option View)
+  kept_views slots = map (λ (s : SlotView C). option_map view s.kept) slots
 
-  -- a session and its connector
-  abbrev pub world_of : Session C → Connected → World
-  world_of s connector = record { pool = pool_of s; connector = connector }
+-- a session over connections with handlers of some type
+module _ {C H : Type 0} (view : C → View) where
+  -- what a session shows, by its manager's settings
+  abbrev pub pool_of : Session C H → Managed → Pool
+  pool_of s m = record { dialect = m.dialect; url = m.url; size = s.core.max_size; slots = kept_views view s.core.slots; out = views_of view s.out.items; blocks = s.blocks; queries = s.queries; policy = policy_with s.customizer s.check }
+
+  -- a session and its manager's connector
+  abbrev pub world_of : Session C H → Managed → World
+  world_of s m = record { pool = pool_of s m; connector = m.connector }
+
+  -- a session by what its manager has
+  abbrev pub world_at : Session C H → Connected → Dialect → List ℕ → World
+  world_at s connector dialect url = world_of s (managed connector dialect url)
+
+-- a place for each server that was opened, where one was opened since
+abbrev pub filled_to : {A : Type 0} → ℕ → List (Option A) → List (Option A)
+filled_to opened out = if nat_lt (length out) opened then out ++ None ∷ [] else out
 
 -- ---- as a reader of logs has them
 

@@ -2,6 +2,7 @@
 #![tactic(auto)]
 
 mod calls;
+mod customizer;
 mod places;
 mod queries;
 mod row_shapes;

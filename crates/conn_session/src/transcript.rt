@@ -10,6 +10,7 @@ use crate::queries::Queries;
 use crate::session::Session;
 use conn_drivers::{AnyConnection, MultiConnection};
 use conn_manager::{Connection, NoInstrumentation};
+use conn_pool::ConnectionManager;
 use conn_report::{Entry, Servers, Texts, Transcript};
 use conn_script::{Script, SessionError, parse_script};
 use conn_server::Connector;
@@ -78,8 +79,16 @@ fn run_commands<
 {
     let url = script.url.copy(alloc)?;
     let queries = Queries::new(alloc, script.queries.as_slice())?;
-    let mut session: Session<C> = Session::new(alloc, script.dialect, url, queries)?;
-    let entries = session.run_all(script.commands.as_slice(), connector);
+    let mut session: Session<C> = Session::new(
+        alloc,
+        script.max_size,
+        script.customizer,
+        script.check,
+        queries,
+    )?;
+    let mut manager = ConnectionManager::<C, K>::new(connector, script.dialect, url);
+    let entries = session.run_all(script.commands.as_slice(), &mut manager);
+    drop(manager);
     session.close(connector);
     entries
 }

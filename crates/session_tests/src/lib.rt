@@ -2,6 +2,8 @@
 #![tactic(auto)]
 
 #[cfg(test)]
+mod pool_tests;
+#[cfg(test)]
 mod query_tests;
 #[cfg(test)]
 mod report_tests;

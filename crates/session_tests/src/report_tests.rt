@@ -5,7 +5,7 @@ use std::fmt::Write;
 use std::test::Fail;
 
 /// Whether the script ends well with this report.
-fn is_reported(alloc: Global, script: &[u8], report: &[u8]) -> Result<bool, AllocError> {
+pub fn is_reported(alloc: Global, script: &[u8], report: &[u8]) -> Result<bool, AllocError> {
     let ended = run_whole(alloc, script)?;
     Ok(ended.status == 0 && ended.written.as_slice() == report)
 }

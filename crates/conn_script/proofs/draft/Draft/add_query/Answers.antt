@@ -10,10 +10,11 @@ invariant_of-self-2 c =
     let free : is_taken c.self.inside.script.queries c.args.query ≡ false = ap (λ (d : Draft). is_taken d.script.queries c.args.query) c.self.view_is ∙ sym c.is_taken.ensures ∙ c.if-is_taken.false in (
       c.self.invariant.0,
       c.self.invariant.1,
+      c.self.invariant.2,
       rw c.in_ok-push.ensures.ok
-          (texts_more c.reserve.new.self c.put.new.self c.self.inside.script.queries c.args.query (λ n. c.reserve.ensures.same n ∙ c.self.invariant.2 n) (not_taken c.self.inside.script.queries c.args.query free)
+          (texts_more c.reserve.new.self c.put.new.self c.self.inside.script.queries c.args.query (λ n. c.reserve.ensures.same n ∙ c.self.invariant.3 n) (not_taken c.self.inside.script.queries c.args.query free)
           (λ n. c.put.ensures n ∙ ap (λ (t : List ℕ). cond (c.args.query.number == n) (Some t) (value_at nat_eq c.reserve.new.self n)) (c.new-text.ensures ∙ c.as_str.ensures))),
       rw c.in_ok-push.ensures.ok
-          (ids_more c.reserve-2.new.self c.add_id.new.ids c.self.inside.script.queries c.args.query (λ n. ap (λ (o : Option (Unit {0})). is_some o) (c.reserve-2.ensures.same n) ∙ c.self.invariant.3 n) (λ n. c.add_id.ensures n)),
-      c.self.invariant.4,
+          (ids_more c.reserve-2.new.self c.add_id.new.ids c.self.inside.script.queries c.args.query (λ n. ap (λ (o : Option (Unit {0})). is_some o) (c.reserve-2.ensures.same n) ∙ c.self.invariant.4 n) (λ n. c.add_id.ensures n)),
+      c.self.invariant.5,
     )

@@ -2,6 +2,7 @@ use Rattle.std.proofs.Common.{◌≡◌, Option, Some, None, ap, sym, ◌∙◌,
 use Rattle.std.specs.Option.{option_map}
 use Rattle.conn_reading.specs.Seats.{Seat, at_number}
 use Rattle.conn_session.specs.Steps.{entry_at}
+use Rattle.conn_pool.specs.declared.pooled.PooledConnection.{PooledConnection}
 use Rattle.conn_session.specs.Worlds.{views_of}
 use Rattle.conn_session.proofs.Shown.{place-at, seats-at}
 use Rattle.conn_session.proofs.Numbers.{at_number-map, at_number-past}
@@ -10,7 +11,7 @@ use Rattle.conn_session.proofs.session.Session.entry.Goals as goal
 
 pub returns-in-Some : goal.returns-in-Some
 returns-in-Some g c =
-    let view = g.C.SimpleConnection.view in
+    let view = λ (p : PooledConnection g.row.C.Denot). g.C.SimpleConnection.view p.connection in
     let out = c.args.self.now.out in
     let n = c.args.n in
     let there = place-at view n out.items c.index.result.now (omega (arith, out.ok.0, c.len.ensures, c.if-place-len.true)) c.index.ensures ∙ ap (option_map view) c.in-Some.is in
@@ -18,7 +19,7 @@ returns-in-Some g c =
 
 pub returns : goal.returns
 returns g c =
-    let view = g.C.SimpleConnection.view in
+    let view = λ (p : PooledConnection g.row.C.Denot). g.C.SimpleConnection.view p.connection in
     let out = c.args.self.now.out in
     let n = c.args.n in
     let there : at_number n (views_of g.C.SimpleConnection.view out.items) ≡ None = elim c.if-place-len.branch [

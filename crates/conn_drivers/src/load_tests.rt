@@ -1,1 +1,0 @@
-//! Queries and loads are tested by whole sessions, in `session_tests`.
