@@ -1,0 +1,5 @@
+pub mod Stanzas
+pub mod Digits
+pub mod Commands
+pub mod Reading
+pub mod Scripts
