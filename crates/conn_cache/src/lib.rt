@@ -8,8 +8,6 @@ mod laws;
 mod preparer;
 mod query;
 mod statement_cache;
-#[cfg(test)]
-mod tests;
 
 pub use conn_model::{CacheEntry, CacheSize};
 pub use entry::Due;

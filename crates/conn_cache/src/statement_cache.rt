@@ -238,34 +238,3 @@ fn close_all<T: Drop, P: Preparer<T>>(statements: &mut Vec<T>, preparer: &mut P)
         preparer.close(statement);
     }
 }
-
-#[cfg(test)]
-mod tests {
-    use super::*;
-    use crate::tests::{Counting, Numbering, Words};
-
-    #[test]
-    fn no_number_comes_after_the_greatest(rt: HostRuntime) {
-        let mut cache = StatementCache::new(rt.alloc());
-        cache.counter = u64::MAX - 1;
-        let mut preparer = Numbering::new(rt.alloc());
-        let mut handler = Counting::new();
-        let mut query = Words {
-            id: Some(7),
-            text: "SELECT a",
-            is_safe: true,
-        };
-        let last = cache.cached_statement(&query, &[], &mut preparer, &mut handler);
-        assert!(rt; matches!(last, Ok(MaybeCached::Cached(0))));
-        assert_eq!(rt; cache.counter(), u64::MAX);
-        let kept = cache.cached_statement(&query, &[], &mut preparer, &mut handler);
-        assert!(rt; matches!(kept, Ok(MaybeCached::Cached(0))));
-        query.id = Some(8);
-        let none = cache.cached_statement(&query, &[], &mut preparer, &mut handler);
-        assert!(rt; matches!(none, Err(Error::CounterExhausted)));
-        assert_eq!(rt; (preparer.given, handler.kept), (1, 1));
-        query.is_safe = false;
-        let own = cache.cached_statement(&query, &[], &mut preparer, &mut handler);
-        assert!(rt; matches!(own, Ok(MaybeCached::CannotCache(_))));
-    }
-}

@@ -19,7 +19,7 @@ use Rattle.conn_model.specs.Rows.{none_left}
 use Rattle.conn_model.specs.Seen.{Seen, IsHonest}
 use Rattle.conn_model.specs.declared.item.Refusal.{Refusal}
 use Rattle.conn_model.proofs.Telling.{stops_telling, tells_first}
-use Rattle.conn_drivers.specs.Cursors.{AnswersNext, AsksNext, Begins, EndsEarly, FinishesBy, HasAsked, LoadsByRow, NextsBy, SkipsLeft, StandsAt, TakesRows, error_at_end, finished, first_of, given_by, progress_after, refusal_in, rows_of_load}
+use Rattle.conn_drivers.specs.Cursors.{AnswersNext, AsksNext, Begins, EndsEarly, FinishesBy, HasAsked, LoadsByRow, NextsBy, SkipsLeft, StandsAt, TakesRows, error_at_end, cursor_end, front_rows, answered_row, progress_after, refusal_in, rows_of_load}
 use Rattle.conn_drivers.specs.Loaded.{LoadsFrom, made_of}
 use Rattle.conn_drivers.specs.Loading.{HasRead, LacksRow, Looks, RefusedRow, TakesRow, all_rows, row_error, seen_shut}
 use Rattle.conn_drivers.specs.Prepares.{error_by}
@@ -39,10 +39,10 @@ nothing_more : (front : List Values) → front ++ [] ≡ front
 nothing_more front = grind (arith, common_steps)
 
 module _ (begun old new : View) (front : List Values) (read : HasRead begun.seen old.seen front) (follows : old.status ≡ begun.status) (keeps : new ≡ record begun { seen = new.seen; status = new.status }) where
-  more_by : (progress : Progress) (result : Option (Result Values Error)) (asked : Result (Option Values) Error) → TakesRow old.seen new.seen old.status new.status asked → AnswersNext asked progress result → HasAsked begun new progress (front ++ given_by result)
+  more_by : (progress : Progress) (result : Option (Result Values Error)) (asked : Result (Option Values) Error) → TakesRow old.seen new.seen old.status new.status asked → AnswersNext asked progress result → HasAsked begun new progress (front ++ answered_row result)
   more_by progress result (Ok (Some row)) takes answers =
-      subst (λ (p : Progress). HasAsked begun new p (front ++ given_by result)) (sym answers.0)
-      (subst (λ (r : Option (Result Values Error)). HasAsked begun new Going (front ++ given_by r)) (sym answers.1)
+      subst (λ (p : Progress). HasAsked begun new p (front ++ answered_row result)) (sym answers.0)
+      (subst (λ (r : Option (Result Values Error)). HasAsked begun new Going (front ++ answered_row r)) (sym answers.1)
       (record {
         refusal = None;
         looks = looks_given begun.seen new.seen begun.status new.status (front ++ row ∷ []) (read_more begun.seen old.seen new.seen front row read takes.0) (takes.1 ∙ follows);
@@ -50,8 +50,8 @@ module _ (begun old new : View) (front : List Values) (read : HasRead begun.seen
         stands = tt;
       }))
   more_by progress result (Ok None) takes answers =
-      subst (λ (p : Progress). HasAsked begun new p (front ++ given_by result)) (sym answers.0)
-      (subst (λ (r : Option (Result Values Error)). HasAsked begun new Ended (front ++ given_by r)) (sym answers.1)
+      subst (λ (p : Progress). HasAsked begun new p (front ++ answered_row result)) (sym answers.0)
+      (subst (λ (r : Option (Result Values Error)). HasAsked begun new Ended (front ++ answered_row r)) (sym answers.1)
       (subst (λ (rows : List Values). HasAsked begun new Ended rows) (sym (nothing_more front))
       (record {
         refusal = None;
@@ -60,8 +60,8 @@ module _ (begun old new : View) (front : List Values) (read : HasRead begun.seen
         stands = are_over old.seen new.seen takes.0;
       })))
   more_by progress result (Err e) takes answers =
-      subst (λ (p : Progress). HasAsked begun new p (front ++ given_by result)) (sym answers.0)
-      (subst (λ (r : Option (Result Values Error)). HasAsked begun new (progress_after e) (front ++ given_by r)) (sym answers.1)
+      subst (λ (p : Progress). HasAsked begun new p (front ++ answered_row result)) (sym answers.0)
+      (subst (λ (r : Option (Result Values Error)). HasAsked begun new (progress_after e) (front ++ answered_row r)) (sym answers.1)
       (subst (λ (rows : List Values). HasAsked begun new (progress_after e) rows) (sym (nothing_more front)) (failed takes)))
     where
       failed : LacksRow old.seen new.seen old.status new.status e ⊎ RefusedRow old.seen new.seen old.status new.status e → HasAsked begun new (progress_after e) front
@@ -83,10 +83,10 @@ module _ (begun old new : View) (front : List Values) (read : HasRead begun.seen
           })
 
 -- the next row was asked
-pub asked_more : (begun old new : View) (progress : Progress) (front : List Values) (result : Option (Result Values Error)) → HasAsked begun old Going front → AsksNext old new progress result → HasAsked begun new progress (front ++ given_by result)
+pub asked_more : (begun old new : View) (progress : Progress) (front : List Values) (result : Option (Result Values Error)) → HasAsked begun old Going front → AsksNext old new progress result → HasAsked begun new progress (front ++ answered_row result)
 asked_more begun old new progress front result h n = by_refusal h.refusal h.looks h.stands
   where
-    by_refusal : (o : Option Refusal) → Looks begun.seen old.seen begun.status old.status front o → StandsAt Going o old.seen → HasAsked begun new progress (front ++ given_by result)
+    by_refusal : (o : Option Refusal) → Looks begun.seen old.seen begun.status old.status front o → StandsAt Going o old.seen → HasAsked begun new progress (front ++ answered_row result)
     by_refusal None looks stands =
         more_by begun old new front (subst (λ (s : Seen). HasRead begun.seen s front) (sym looks.ending.0) looks.read) looks.ending.1
         (n.keeps ∙ ap (λ (v : View). record v { seen = new.seen; status = new.status }) h.keeps) progress result n.asked n.takes n.answers
@@ -111,7 +111,7 @@ error_at (Refused e) front s = refl
 
 -- a load that began, whose rows were asked so far, and that was ended
 pub cursor_loads : (honest : Bool) (q : QueryView) (old begun last new : View) (statement : Option ℕ) (progress : Progress) (front : List Values) → Begins honest q old begun → HasAsked begun last progress front → (honest ≡ true → IsHonest last.seen)
-    → new ≡ finished statement q.sql (refusal_in progress) last → LoadsByRow honest q old last new progress front
+    → new ≡ cursor_end statement q.sql (refusal_in progress) last → LoadsByRow honest q old last new progress front
 cursor_loads honest q old begun last new statement progress front b h honesty is =
     subst (λ (v : View). LoadsByRow honest q old last v progress front) (sym is) (whole statement)
   where
@@ -137,7 +137,7 @@ cursor_loads honest q old begun last new statement progress front b h honesty is
     closed None = went
     closed (Some n) = goes_closed honest (load_process rows_heard old.seen.dialect q old.status old.cache) (finishes q.sql (rows_of_load progress front last.seen) last.status last.cache) n old.seen last.seen (seen_shut (Some n) last.seen) old.heeded last.heeded refl went
 
-    whole : (o : Option ℕ) → LoadsByRow honest q old last (finished o q.sql (refusal_in progress) last) progress front
+    whole : (o : Option ℕ) → LoadsByRow honest q old last (cursor_end o q.sql (refusal_in progress) last) progress front
     whole o =
         let shut = seen_shut o last.seen in
         let a : Asked (List Values) = asked (rows_of_load progress front last.seen) last.status last.cache in
@@ -203,7 +203,7 @@ pub row_cursor_loads : (honest : Bool) (q : QueryView) (old begun last new : Vie
     → (finishes : FinishesBy progress statement q.sql last new result) → (honest ≡ true → IsHonest finishes.mid.seen) → (ended : HasEnded begun finishes.mid (error_at_end progress result)) × LoadsByRow honest q old finishes.mid new ended.progress ended.front
 row_cursor_loads honest q old begun last new statement progress front result b h finishes honesty =
     let ended = rest_asked begun last finishes.mid front progress result h finishes.skips in
-    (ended, cursor_loads honest q old begun finishes.mid new statement ended.progress ended.front b ended.asked honesty (finishes.ends ∙ ap (λ (e : Option Error). finished statement q.sql e finishes.mid) ended.told))
+    (ended, cursor_loads honest q old begun finishes.mid new statement ended.progress ended.front b ended.asked honesty (finishes.ends ∙ ap (λ (e : Option Error). cursor_end statement q.sql e finishes.mid) ended.told))
 
 -- ---- the first rows
 
@@ -266,7 +266,7 @@ module _ (count : ℕ) (begun now : View) (front : List Values) where
       refused x r is stands same =
           let p : progress ≡ Refused (error_by r) = stands ∙ ap progress_after is in
           let whole : rows_of_load progress (front ++ []) now.seen ≡ Err e = ap (λ (y : Progress). rows_of_load y (front ++ []) now.seen) p ∙ ap (λ (y : Error). let r : Result (List Values) Error = Err y in r) (sym (same ∙ is)) in
-          record { front = front ++ []; asked = given; answers = inl (sym (ap (λ (rows : Result (List Values) Error). made_of (first_of count) rows) whole)) }
+          record { front = front ++ []; asked = given; answers = inl (sym (ap (λ (rows : Result (List Values) Error). made_of (front_rows count) rows) whole)) }
 
       by_asked : (asked : Result (Option Values) Error) → TakesRow old.seen now.seen old.status now.status asked → AnswersNext asked progress (Some (Err e)) → TakesRows count begun now progress (Err e)
       by_asked (Ok (Some row)) takes answers = absurd (cc)
@@ -297,7 +297,7 @@ module _ (begun old new : View) (front : List Values) (before progress : Progres
 
 -- they are the first ones of the whole load
 pub first_loads : (honest : Bool) (q : QueryView) (count : ℕ) (old begun last new : View) (statement : Option ℕ) (progress : Progress) (result : Result (List Values) Error) → Begins honest q old begun → TakesRows count begun last progress result → (honest ≡ true → IsHonest last.seen)
-    → new ≡ finished statement q.sql (refusal_in progress) last → LoadsFrom honest q (first_of count) old new result
+    → new ≡ cursor_end statement q.sql (refusal_in progress) last → LoadsFrom honest q (front_rows count) old new result
 first_loads honest q count old begun last new statement progress result b t honesty is = inr (inr (record {
   rows = rows_of_load progress t.front last.seen;
   tells = cursor_loads honest q old begun last new statement progress t.front b t.asked honesty is;
@@ -308,15 +308,15 @@ not_err : (rows : List Values) (e : Error) → (let r : Result (List Values) Err
 not_err rows e h = cc
 
 -- a load that was over before its rows
-pub first_ends : (honest : Bool) (q : QueryView) (count : ℕ) (old new : View) (e : Error) → EndsEarly honest q old new e → LoadsFrom honest q (first_of count) old new (Err e)
+pub first_ends : (honest : Bool) (q : QueryView) (count : ℕ) (old new : View) (e : Error) → EndsEarly honest q old new e → LoadsFrom honest q (front_rows count) old new (Err e)
 first_ends honest q count old new e ends = by_loads ends.loads
   where
-    by_answers : (rows : Result (List Values) Error) → AnswersBy (made_of (λ (xs : List Values). Ok xs) rows) (Err e) → AnswersBy (made_of (first_of count) rows) (Err e)
+    by_answers : (rows : Result (List Values) Error) → AnswersBy (made_of (λ (xs : List Values). Ok xs) rows) (Err e) → AnswersBy (made_of (front_rows count) rows) (Err e)
     by_answers (Ok rows) (inl is) = absurd (not_err rows e is)
     by_answers (Err x) (inl is) = inl is
     by_answers rows (inr memory) = inr memory
 
-    by_loads : LoadsFrom honest q (λ rows. Ok rows) old new (Err e) → LoadsFrom honest q (first_of count) old new (Err e)
+    by_loads : LoadsFrom honest q (λ rows. Ok rows) old new (Err e) → LoadsFrom honest q (front_rows count) old new (Err e)
     by_loads (inl idle) = inl idle
     by_loads (inr (inl lost)) = inr (inl (record { is = lost.is; tells = lost.tells }))
     by_loads (inr (inr loads)) = inr (inr (record { rows = loads.rows; tells = loads.tells; answers = by_answers loads.rows loads.answers }))

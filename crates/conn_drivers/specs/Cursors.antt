@@ -98,8 +98,8 @@ refusal_in Ended = None
 refusal_in (Refused e) = Some e
 
 -- the statement is closed, and the end is told
-abbrev pub finished : Option ℕ → List ℕ → Option Error → View → View
-finished statement sql error v = with_event (record v { seen = seen_shut statement v.seen }) (FinishQuery sql error)
+abbrev pub cursor_end : Option ℕ → List ℕ → Option Error → View → View
+cursor_end statement sql error v = with_event (record v { seen = seen_shut statement v.seen }) (FinishQuery sql error)
 
 -- ---- the end of a cursor that asks the rest
 
@@ -128,15 +128,15 @@ error_at_end progress (Err e) = row_error e
 pub record FinishesBy (progress : Progress) (statement : Option ℕ) (sql : List ℕ) (old new : View) (result : Result (Unit {0}) Error) : Type 0 where
   pub mid : View
   pub skips : SkipsLeft progress old mid result
-  pub ends : new ≡ finished statement sql (error_at_end progress result) mid
+  pub ends : new ≡ cursor_end statement sql (error_at_end progress result) mid
 
 -- ---- the whole load
 
 -- the row that was answered
-abbrev pub given_by : Option (Result Values Error) → List Values
-given_by (Some (Ok row)) = row ∷ []
-given_by (Some (Err e)) = []
-given_by None = []
+abbrev pub answered_row : Option (Result Values Error) → List Values
+answered_row (Some (Ok row)) = row ∷ []
+answered_row (Some (Err e)) = []
+answered_row None = []
 
 -- how the rows stand: none was refused so far, none is left, or this one was refused
 abbrev pub StandsAt : Progress → Option Refusal → Seen → Type 0
@@ -168,11 +168,11 @@ LoadsByRow honest q old last new progress front =
 -- ---- the first rows
 
 -- the first of the rows, at most so many
-abbrev pub first_of : ℕ → List Values → Result (List Values) Error
-first_of count rows = Ok (take count rows)
+abbrev pub front_rows : ℕ → List Values → Result (List Values) Error
+front_rows count rows = Ok (take count rows)
 
 -- since a load began its first rows were asked, and these are answered, but for want of memory
 pub record TakesRows (count : ℕ) (begun now : View) (progress : Progress) (result : Result (List Values) Error) : Type 0 where
   pub front : List Values
   pub asked : HasAsked begun now progress front
-  pub answers : AnswersBy (made_of (first_of count) (rows_of_load progress front now.seen)) result
+  pub answers : AnswersBy (made_of (front_rows count) (rows_of_load progress front now.seen)) result

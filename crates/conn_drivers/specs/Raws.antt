@@ -1,9 +1,6 @@
 -- What the connections show, and what a connection to any of the three has in common with them.
-use Rattle.std.specs.Prelude.{Bool, true, false}
 use Rattle.conn_model.specs.Events.{Heeded}
 use Rattle.conn_model.specs.Seen.{Seen}
-use Rattle.conn_model.specs.declared.item.Dialect.{Dialect}
-use Rattle.conn_model.specs.declared.item.Dialect.TheVariants as dialects
 use Rattle.conn_manager.specs.Views.{View}
 use Rattle.conn_drivers.specs.Queried.{known_of}
 use Rattle.conn_drivers.specs.declared.any.AnyConnection.{AnyConnection}
@@ -19,10 +16,3 @@ abbrev pub raw_of : {S H : Type 0} → {g : _} → AnyConnection S H g → RawCo
 raw_of (Pg c) = c.raw
 raw_of (Mysql c) = c.raw
 raw_of (Sqlite c) = c.raw
-
--- the same dialect
-abbrev pub same_dialect : Dialect → Dialect → Bool
-same_dialect dialects.Pg dialects.Pg = true
-same_dialect dialects.Mysql dialects.Mysql = true
-same_dialect dialects.Sqlite dialects.Sqlite = true
-same_dialect _ _ = false

@@ -11,7 +11,7 @@ use Rattle.conn_model.specs.declared.cache.CacheEntry.{CacheEntry}
 use Rattle.conn_drivers.specs.declared.statement.Statement.{Statement}
 
 -- there is so much room
-pub record HasRoom (items bytes : ℕ) (s : Seen) : Type 0 where
+pub record HasLogRoom (items bytes : ℕ) (s : Seen) : Type 0 where
   pub has_items : items ≤ s.item_room
   pub has_bytes : bytes ≤ s.byte_room
 

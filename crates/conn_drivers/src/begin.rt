@@ -2,7 +2,7 @@
 ghost use Rattle.std.specs.Prelude.{◌≡◌, IfOk, MatchResult};
 ghost use Rattle.conn_cache.specs.QueryProcesses.{without_value};
 ghost use Rattle.conn_manager.specs.Manages.{HasServerCause};
-ghost use Rattle.conn_drivers.specs.Cursors.{AreHeldAfter, Begins, EndsEarly, FinishesBy, SkipsLeft, StartsBetween, error_at_end, finished};
+ghost use Rattle.conn_drivers.specs.Cursors.{AreHeldAfter, Begins, EndsEarly, FinishesBy, SkipsLeft, StartsBetween, error_at_end, cursor_end};
 ghost use Rattle.conn_drivers.specs.Loading.{BeginsIf, TakesRow, seen_shut, shut_by};
 ghost use Rattle.conn_drivers.specs.Raws.{shows};
 ghost use Rattle.conn_drivers.specs.Standing.{AreHeld};
@@ -103,7 +103,7 @@ impl<S: Server, H: Instrumentation + Drop> RawConnection<S, H> {
     pub(crate) fn finish(&mut self, sql: &str, statement: Option<u64>, error: Option<Error>)
         requires held { AreHeldAfter statement (S.seen self.old.wire.server) self.old.cache }
         ensures view { shows S.seen H.told self.new
-            ≡ finished statement sql.now error (shows S.seen H.told self.old) }
+            ≡ cursor_end statement sql.now error (shows S.seen H.told self.old) }
         ensures cache { self.new.cache ≡ self.old.cache }
     {
         self.wire.end(statement);

@@ -130,11 +130,11 @@ impl<S: Server, D: Kind, H: Instrumentation + Drop> R2D2Connection for Driver<S,
 
 impl<S: Server, D: Kind, H: Instrumentation + Drop> Establish for Driver<S, D, H> {
     ghost use Rattle.std.specs.Prelude.{refl};
-    ghost use Rattle.conn_drivers.specs.Raws.{same_dialect};
+    ghost use Rattle.conn_model.specs.Dialects.{is_dialect};
 
     type S = S;
 
-    ghost takes = { same_dialect D.dialect };
+    ghost takes = { is_dialect D.dialect };
 
     fn establish<K: Connector<S = S>>(
         alloc: Global,

@@ -5,7 +5,7 @@ ghost use Rattle.conn_manager.specs.Manages.{HasServerCause};
 ghost use Rattle.conn_model.specs.Statements.{run_bytes, source_text};
 ghost use Rattle.conn_drivers.specs.Loading.{AsksBy, BeginsIf, LoadsOn, RunsRows, Starts, seen_shut, shut_by};
 ghost use Rattle.conn_drivers.specs.Queried.{CanRun, shut_in};
-ghost use Rattle.conn_drivers.specs.Standing.{AreHeld, HasRoom};
+ghost use Rattle.conn_drivers.specs.Standing.{AreHeld, HasLogRoom};
 ghost use Rattle.std.specs.Prelude.{true};
 
 use crate::gather::Gather;
@@ -38,7 +38,7 @@ impl<S: Server> Wire<S> {
     ) -> QueryResult<()>
         requires opened { source_text (S.seen self.old.server).open_statements by
             ≡ Some (Q.view source.now).sql }
-        requires room { HasRoom 2 (run_bytes (Q.view source.now).sql (Q.view source.now).binds)
+        requires room { HasLogRoom 2 (run_bytes (Q.view source.now).sql (Q.view source.now).binds)
             (S.seen self.old.server) }
         ensures runs { RunsRows S.is_honest (Q.view source.now) columns (S.seen self.old.server)
             (S.seen self.new.server) self.old.status self.new.status result }
@@ -66,7 +66,7 @@ impl<S: Server> Wire<S> {
     ) -> QueryResult<Option<u64>>
         requires opened { CanRun (S.seen self.old.server).dialect
             (S.seen self.old.server).open_statements statement (Q.view source.now).sql }
-        requires room { HasRoom 2 (run_bytes (Q.view source.now).sql (Q.view source.now).binds)
+        requires room { HasLogRoom 2 (run_bytes (Q.view source.now).sql (Q.view source.now).binds)
             (S.seen self.old.server) }
         ensures runs { RunsRows S.is_honest (Q.view source.now) statement.columns
             (S.seen self.old.server) (S.seen self.new.server) self.old.status self.new.status
@@ -108,7 +108,7 @@ impl<S: Server> Wire<S> {
         source: &Q,
         handler: &mut I,
     ) -> QueryResult<Option<u64>>
-        requires room { let q = Q.view source.now in HasRoom 3
+        requires room { let q = Q.view source.now in HasLogRoom 3
             (length q.sql + run_bytes q.sql q.binds) (S.seen self.old.server) }
         requires held { AreHeld (S.seen self.old.server).open_statements cache.old }
         ensures starts { Starts S.is_honest (Q.view source.now) (λ w. S.seen w.server)
@@ -156,7 +156,7 @@ impl<S: Server> Wire<S> {
         alloc: Global,
         gather: &G,
     ) -> RowsReply<G::Value>
-        requires room { let q = Q.view source.now in HasRoom 3
+        requires room { let q = Q.view source.now in HasLogRoom 3
             (length q.sql + run_bytes q.sql q.binds) (S.seen self.old.server) }
         requires held { AreHeld (S.seen self.old.server).open_statements cache.old }
         ensures loads { LoadsOn S.is_honest (Q.view source.now) (λ w. S.seen w.server)

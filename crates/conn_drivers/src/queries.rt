@@ -7,7 +7,7 @@ ghost use Rattle.conn_model.specs.declared.item.Call.TheVariants.{Run};
 ghost use Rattle.conn_model.specs.declared.reply.RunSource.TheVariants.{Prepared};
 ghost use Rattle.conn_drivers.specs.Loading.{BeginsIf};
 ghost use Rattle.conn_drivers.specs.Queried.{CanRun, KeepsNone, Queries, Readies, RunsOut, Spends, counted_by, shut_in};
-ghost use Rattle.conn_drivers.specs.Standing.{AreHeld, HasRoom, stands_in};
+ghost use Rattle.conn_drivers.specs.Standing.{AreHeld, HasLogRoom, stands_in};
 ghost use Rattle.conn_drivers.specs.Wires.{HearsBy};
 ghost use Rattle.conn_cache.specs.Soundness.{IsOwnAnswer};
 ghost use Rattle.std.specs.Prelude.{false};
@@ -56,7 +56,7 @@ impl<S: Server> Wire<S> {
         source: &Q,
         handler: &mut I,
     ) -> QueryResult<MaybeCached<Statement>>
-        requires room { HasRoom 1 (length (Q.view source.now).sql) (S.seen self.old.server) }
+        requires room { HasLogRoom 1 (length (Q.view source.now).sql) (S.seen self.old.server) }
         requires held { AreHeld (S.seen self.old.server).open_statements cache.old }
         ensures readies { Readies S.is_honest (Q.view source.now) (λ w. S.seen w.server)
             (λ w. w.status) I.told self.old self.new cache.old cache.new handler.old handler.new
@@ -80,7 +80,7 @@ impl<S: Server> Wire<S> {
     pub(crate) fn run_query<Q: Query>(&mut self, by: RunSource<'_>, source: &Q) -> QueryResult<u64>
         requires opened { source_text (S.seen self.old.server).open_statements by
             ≡ Some (Q.view source.now).sql }
-        requires room { HasRoom 2 (run_bytes (Q.view source.now).sql (Q.view source.now).binds)
+        requires room { HasLogRoom 2 (run_bytes (Q.view source.now).sql (Q.view source.now).binds)
             (S.seen self.old.server) }
         ensures runs { RunsOut S.is_honest (Q.view source.now) (S.seen self.old.server)
             (S.seen self.new.server) self.old.status self.new.status result }
@@ -99,7 +99,7 @@ impl<S: Server> Wire<S> {
     fn run_plain<Q: Query>(&mut self, statement: Statement, source: &Q) -> QueryResult<u64>
         requires opened { CanRun (S.seen self.old.server).dialect
             (S.seen self.old.server).open_statements statement (Q.view source.now).sql }
-        requires room { HasRoom 2 (run_bytes (Q.view source.now).sql (Q.view source.now).binds)
+        requires room { HasLogRoom 2 (run_bytes (Q.view source.now).sql (Q.view source.now).binds)
             (S.seen self.old.server) }
         ensures runs { RunsOut S.is_honest (Q.view source.now) (S.seen self.old.server)
             (S.seen self.new.server) self.old.status self.new.status result }
@@ -125,7 +125,7 @@ impl<S: Server> Wire<S> {
         source: &Q,
         handler: &mut I,
     ) -> QueryResult<usize>
-        requires room { let q = Q.view source.now in HasRoom 3
+        requires room { let q = Q.view source.now in HasLogRoom 3
             (length q.sql + run_bytes q.sql q.binds) (S.seen self.old.server) }
         requires held { AreHeld (S.seen self.old.server).open_statements cache.old }
         ensures queries { Queries S.is_honest (Q.view source.now) (λ w. S.seen w.server)
@@ -147,15 +147,5 @@ impl<S: Server> Wire<S> {
             }
             Err(e) => Err(e),
         }
-    }
-}
-
-#[cfg(test)]
-mod tests {
-    use super::*;
-
-    #[test]
-    fn each_count_of_rows_fits(rt: HostRuntime) {
-        assert_eq!(rt; affected_count(u64::MAX).ok(), Some(usize::MAX));
     }
 }

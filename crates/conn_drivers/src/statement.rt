@@ -1,7 +1,7 @@
 //! The statements that a connection keeps, and how its wire prepares them.
 ghost use Rattle.std.specs.Prelude.{◌≡◌, length, false};
 ghost use Rattle.conn_drivers.specs.Prepares.{name_of, sends_none, statement_by};
-ghost use Rattle.conn_drivers.specs.Standing.{HasRoom, stands_in};
+ghost use Rattle.conn_drivers.specs.Standing.{HasLogRoom, stands_in};
 
 use crate::Wire;
 use crate::wire::error_of;
@@ -52,7 +52,7 @@ impl<S: Server> Preparer<Statement> for Wire<S> {
 
     ghost failures = { λ w. (S.seen w.server).failures };
 
-    ghost has_room = { λ w sql. HasRoom 1 (length sql) (S.seen w.server) };
+    ghost has_room = { λ w sql. HasLogRoom 1 (length sql) (S.seen w.server) };
 
     ghost stands = { λ w t sql. stands_in (S.seen w.server).open_statements t sql };
 

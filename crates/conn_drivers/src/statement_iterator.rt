@@ -1,7 +1,7 @@
 //! The rows of a query on MySQL or SQLite, one at a time.
 ghost use Rattle.std.specs.Prelude.{◌≡◌, IfOk};
 ghost use Rattle.std.specs.Borrow.{sem, RestsIfErr};
-ghost use Rattle.conn_drivers.specs.Cursors.{Begins, RestsEarly, finished, first_of, refusal_in};
+ghost use Rattle.conn_drivers.specs.Cursors.{Begins, RestsEarly, cursor_end, front_rows, refusal_in};
 ghost use Rattle.conn_drivers.specs.Loaded.{LoadsFrom, listed};
 ghost use Rattle.conn_drivers.specs.Raws.{shows};
 ghost use Rattle.conn_drivers.specs.declared.progress.Progress.TheVariants.{Going};
@@ -46,7 +46,7 @@ impl<S: Server, D: StatementKind, H: Instrumentation + Drop> Driver<S, D, H> {
         source: &Q,
         count: usize,
     ) -> QueryResult<Vec<Row>>
-        ensures loads { LoadsFrom S.is_honest (Q.view source.now) (first_of count)
+        ensures loads { LoadsFrom S.is_honest (Q.view source.now) (front_rows count)
             (shows S.seen H.told self.old.raw) (shows S.seen H.told self.new.raw) (listed result) }
     {
         let mut rows = self.load(alloc, source)?;
@@ -59,7 +59,7 @@ impl<S: Server, D: StatementKind, H: Instrumentation + Drop> Driver<S, D, H> {
 impl<'c, S: Server, D: StatementKind, H: Instrumentation + Drop> StatementIterator<'c, S, D, H> {
     /// Closes the statement where it isn't kept, and tells of the end, with the error that a row was refused with.
     pub fn finish(self)
-        ensures { shows S.seen H.told self.exit.0.now.raw ≡ finished self.entry.statement
+        ensures { shows S.seen H.told self.exit.0.now.raw ≡ cursor_end self.entry.statement
             self.entry.sql.now (refusal_in self.entry.progress)
             (shows S.seen H.told self.entry.conn.now.raw) }
     {

@@ -4,7 +4,7 @@ use Rattle.conn_result.specs.declared.error.ConnectionError.{ConnectionError as 
 use Rattle.conn_manager.specs.Manages.{Reply}
 use Rattle.conn_manager.specs.Views.{View}
 use Rattle.conn_result.specs.PoolErrors.{opening_error}
-use Rattle.conn_pool.specs.ErrorCauses.{query_answer}
+use Rattle.conn_pool.specs.ErrorCauses.{asked_answer}
 use Rattle.conn_result.specs.declared.pool.Error.{Error}
 
 -- no connection was opened, and the error says why
@@ -14,12 +14,12 @@ pub record FailsToConnect {M : Type 0} (fails : M → M → OpeningFault → Typ
   pub error_is : e ≡ opening_error fault
 
 -- a connection was opened, or none
-abbrev pub Connects : {M C : Type 0} → (M → M → View → Type 0) → (M → M → OpeningFault → Type 0) → (C → View) → M → M → Result C Error → Type 0
-Connects opens fails view old new result = MatchResult result (λ c. opens old new (view c)) (FailsToConnect fails old new)
+abbrev pub ConnectsBy : {M C : Type 0} → (M → M → View → Type 0) → (M → M → OpeningFault → Type 0) → (C → View) → M → M → Result C Error → Type 0
+ConnectsBy opens fails view old new result = MatchResult result (λ c. opens old new (view c)) (FailsToConnect fails old new)
 
 -- a connection was checked, it is the same one, and an error has its number
 pub record Validates {M : Type 0} (checks : M → M → View → View → Reply → Type 0) (old new : M) (v w : View) (result : Result (Unit {0}) Error) : Type 0 where
   pub reply : Reply
   pub checked : checks old new v w reply
   pub same_number : w.seen.number ≡ v.seen.number
-  pub result_is : result ≡ query_answer w.seen.number reply
+  pub result_is : result ≡ asked_answer w.seen.number reply

@@ -8,7 +8,7 @@ ghost use Rattle.conn_manager.specs.Manages.{Reply};
 ghost use Rattle.conn_manager.specs.Statuses.{is_broken};
 ghost use Rattle.conn_manager.specs.Views.{View};
 ghost use Rattle.conn_pool.specs.ErrorCauses.{CountsErrors};
-ghost use Rattle.conn_pool.specs.Managing.{Connects, Validates};
+ghost use Rattle.conn_pool.specs.Managing.{ConnectsBy, Validates};
 
 use crate::Error;
 use conn_drivers::R2D2Connection;
@@ -51,7 +51,7 @@ pub trait ManageConnection {
     /// Opens a connection.
     fn connect(&mut self, alloc: Global) -> Result<Self::Connection, Error>
         requires room { raises_room ≡ false → 1 ≤ room self.old }
-        ensures connects { Connects opens fails Self.Connection.view self.old self.new result }
+        ensures connects { ConnectsBy opens fails Self.Connection.view self.old self.new result }
         ensures room { room self.old ≤ room self.new }
         ensures leaves_room { OnOk result (1 ≤ room self.new) }
         ensures raises { raises_room ≡ true → OnOk result (room self.old + 1 ≤ room self.new) }

@@ -4,6 +4,8 @@ use Rattle.std.specs.Prelude.{⊤, ◌==◌, if◌then◌else◌}
 use Rattle.conn_result.specs.declared.error.Error.{Error}
 use Rattle.conn_result.specs.declared.pool.Error.TheVariants as pooling
 use Rattle.conn_model.specs.Armed.{Armed}
+use Rattle.conn_model.proofs.Beginnings.{form_is_plain}
+use Rattle.conn_model.specs.Beginnings.{form_text}
 use Rattle.conn_model.specs.Classes.{class, begins, is_begin, is_built, is_write, same_text, number_behind}
 use Rattle.conn_model.specs.Nuls.{nul_fault}
 use Rattle.conn_model.specs.Process.{Process, Stop, Ask, Look, Tell, map_process}
@@ -18,7 +20,8 @@ use Rattle.conn_cache.specs.QueryProcesses.{ping_view}
 use Rattle.conn_report.specs.declared.entry.Reply.{Reply}
 use Rattle.conn_report.specs.declared.entry.Reply.TheVariants as replies
 use Rattle.conn_script.specs.Requests.{verb_word}
-use Rattle.conn_script.specs.declared.command.BlockKind.TheVariants.{Plain, Test}
+use Rattle.conn_script.specs.declared.command.BlockKind.{BlockKind}
+use Rattle.conn_script.specs.declared.command.BlockKind.TheVariants.{Plain, Test, Form}
 use Rattle.conn_script.specs.declared.query.Declared.{Declared}
 use Rattle.conn_script.specs.declared.command.QueryCall.{QueryCall}
 use Rattle.conn_script.specs.declared.command.QueryCall.TheVariants as query_calls
@@ -27,9 +30,9 @@ use Rattle.conn_script.specs.declared.request.Verb.TheVariants as verbs
 use Rattle.conn_script.specs.declared.command.Customizer.{Customizer}
 use Rattle.conn_script.specs.declared.command.Customizer.TheVariants as customizers
 use Rattle.conn_reading.specs.Asking.{check_deed, customizer_deed, Outcome, declared_process, find_query, process_of, query_call_process, reply_as, told_as, view_of}
-use Rattle.conn_reading.specs.Blocks.{plain_deed, if_live, closing, deed_in, deed_of}
+use Rattle.conn_reading.specs.Blocks.{opening, plain_deed, if_live, closing, deed_in, deed_of}
 use Rattle.conn_reading.specs.Folds.{Stack, Kind, Begins, Commits, Rolls, Closes, Sends, after_reply, kind_of, KeepsLive}
-use Rattle.conn_reading.specs.Histories.{Operation, Begin, Commit, Rollback, TestBegin, Close, Asks, IsOperation, left_status, operation_process}
+use Rattle.conn_reading.specs.Histories.{Operation, Begin, BeginBy, Commit, Rollback, TestBegin, Close, Asks, IsOperation, left_status, operation_process}
 use Rattle.conn_reading.specs.Plainly.{Plainly}
 use Rattle.conn_reading.specs.Reading.{Read, read, Reads}
 use Rattle.conn_reading.specs.Sessions.{deed_kind, after_kind, KindLive, IsClean, QueriesPlain, SendsPlain}
@@ -51,6 +54,7 @@ ended o = done (Ok tt) o.status
 abbrev pub operation_of : List Declared → Known → Deed → Operation
 operation_of queries c (deeds.Batch text) = Asks (λ d s. send_process d text s)
 operation_of queries c deeds.Begin = Begin
+operation_of queries c (deeds.BeginBy form) = BeginBy (form_text form)
 operation_of queries c deeds.Commit = Commit
 operation_of queries c deeds.Rollback = Rollback
 operation_of queries c deeds.TestBegin = TestBegin
@@ -104,13 +108,18 @@ module _ (queries : List Declared) (all : QueriesPlain queries) where
   abbrev IsPlain : Option Deed → Type 0
   IsPlain deed = IsPlainDeed queries deed
 
+  opening_plain : (kind : BlockKind) → IsPlain (Some (opening kind))
+  opening_plain Plain = λ c. tt
+  opening_plain Test = λ c. tt
+  opening_plain (Form form) = λ c. (form_is_plain form).0
+
   plain_deed_plain : (verb : Verb) → SendsPlain verb → IsPlain (plain_deed verb)
   plain_deed_plain (verbs.Batch text) plain = λ c d S. text_plainly d text (nul_fault d text) S plain
   plain_deed_plain verbs.Begin plain = λ c. tt
   plain_deed_plain verbs.Commit plain = λ c. tt
   plain_deed_plain verbs.Rollback plain = λ c. tt
   plain_deed_plain verbs.TestBegin plain = λ c. tt
-  plain_deed_plain (verbs.Block kind) plain = λ c. tt
+  plain_deed_plain (verbs.Block kind) plain = opening_plain kind
   plain_deed_plain verbs.End plain = tt
   plain_deed_plain verbs.Fail plain = tt
   plain_deed_plain (verbs.Query call n) plain = λ c d S. ended_plainly d S (declared_process d call (find_query n queries) S c) (declared_plainly call n queries c d S all)
@@ -148,7 +157,7 @@ module _ (queries : List Declared) (all : QueriesPlain queries) where
   deed_in_plain b verbs.Commit plain = if_live_plain b.state _ (λ c. tt)
   deed_in_plain b verbs.Rollback plain = if_live_plain b.state _ (λ c. tt)
   deed_in_plain b verbs.TestBegin plain = if_live_plain b.state _ (λ c. tt)
-  deed_in_plain b (verbs.Block kind) plain = if_live_plain b.state _ (λ c. tt)
+  deed_in_plain b (verbs.Block kind) plain = if_live_plain b.state _ (opening_plain kind)
   deed_in_plain b (verbs.Query call n) plain = if_live_plain b.state _ (plain_deed_plain (verbs.Query call n) plain)
   deed_in_plain b (verbs.Cache size) plain = if_live_plain b.state _ (plain_deed_plain (verbs.Cache size) plain)
   deed_in_plain b verbs.Ping plain = if_live_plain b.state _ (plain_deed_plain verbs.Ping plain)
@@ -187,6 +196,7 @@ error_live Begins e k = tt
 error_live Commits e k = tt
 error_live Rolls e k = tt
 error_live (Closes Plain) e k = tt
+error_live (Closes (Form form)) e k = tt
 error_live (Closes Test) e k = tt
 error_live Sends e k = tt
 
@@ -255,6 +265,7 @@ deed_reads d armed s S queries c deed left r is = by_deed deed (reads_front d ar
     by_deed : (x : Deed) → ReadsFront d s (process_of d queries S c x) left r → DeedReads d s S queries c x left r
     by_deed (deeds.Batch text) front = told_reads d s S queries c (deeds.Batch text) left r refl front (owned (deeds.Batch text) front)
     by_deed deeds.Begin front = told_reads d s S queries c deeds.Begin left r refl front (owned deeds.Begin front)
+    by_deed (deeds.BeginBy form) front = told_reads d s S queries c (deeds.BeginBy form) left r refl front (owned (deeds.BeginBy form) front)
     by_deed deeds.Commit front = told_reads d s S queries c deeds.Commit left r refl front (owned deeds.Commit front)
     by_deed deeds.Rollback front = told_reads d s S queries c deeds.Rollback left r refl front (owned deeds.Rollback front)
     by_deed deeds.TestBegin front = told_reads d s S queries c deeds.TestBegin left r refl front (owned deeds.TestBegin front)

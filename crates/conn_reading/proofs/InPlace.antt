@@ -20,7 +20,7 @@ use Rattle.conn_script.specs.declared.command.Word.{Word}
 use Rattle.conn_script.specs.declared.request.Request.TheVariants.{Get}
 use Rattle.conn_drivers.specs.Establishing.{url_fault}
 use Rattle.conn_model.specs.Caches.{Known, nothing_known}
-use Rattle.conn_reading.specs.Answered.{ServerLogs, Progress, Taken, taken, with_left, reads_on, taken_on, seat_after, readied, refusal_at, refusal_of, new_seat, reads_ready, taken_ready, reads_opened, reads_set_up, reads_attempt, reads_opening, reads_get, reads, with_opened, with_slots}
+use Rattle.conn_reading.specs.Answered.{ServerLogs, Progress, Taken, taken, with_left, reads_on, taken_on, seat_after, readied, refusal_at, get_refusal, new_seat, reads_ready, taken_ready, reads_opened, reads_set_up, reads_attempt, reads_opening, reads_get, reads, with_opened, with_slots}
 use Rattle.conn_reading.specs.Asking.{Outcome, check_deed, outcome, process_of}
 use Rattle.conn_reading.specs.Reading.{Read, read, ReadsItems, BeginsAnew}
 use Rattle.conn_reading.specs.Readings.{ReadsEntry}
@@ -104,12 +104,12 @@ abbrev pub ReadsReady : Progress → ℕ → Bool → Option Deed → Seat → L
 ReadsReady p line fresh deed seat items after e = let t = readied p (λ k. []) line after e in ReadsEntry (λ p logs. reads_ready p logs line fresh deed seat) p (only seat.number items) t.entry t.progress
 
 -- nothing is asked
-pub still_in_place : (p : Progress) (line : ℕ) (fresh : Bool) (seat : Seat) → ReadsReady p line fresh None seat [] seat (refusal_of fresh seat replies.Ok)
+pub still_in_place : (p : Progress) (line : ℕ) (fresh : Bool) (seat : Seat) → ReadsReady p line fresh None seat [] seat (get_refusal fresh seat replies.Ok)
 still_in_place p line fresh seat = record {
   anew = only_anew seat.number [] tt;
   whatever_follows = λ logs more follows more_anew. (
     logs,
-    ap (λ (t : Taken). Some t) (readied_is p logs line seat (refusal_of fresh seat replies.Ok)),
+    ap (λ (t : Taken). Some t) (readied_is p logs line seat (get_refusal fresh seat replies.Ok)),
     λ k. follows k ∙ ap (λ (l : List Item). l ++ more k) (only_none seat.number k),
   );
 }
@@ -118,7 +118,7 @@ still_in_place p line fresh seat = record {
 pub ready_in_place : (p : Progress) (line : ℕ) (fresh : Bool) (deed : Deed) (seat after : Seat) (items : List Item) (reply : Reply)
     → ReadsItems p.dialect p.armed seat.state (process_of p.dialect p.queries seat.status seat.cache deed) items (outcome reply after.status after.cache) after.state → BeginsAnew items
     → after.number ≡ seat.number → after.mark ≡ seat.mark + length items
-    → ReadsReady p line fresh (Some deed) seat items after (refusal_of fresh after reply)
+    → ReadsReady p line fresh (Some deed) seat items after (get_refusal fresh after reply)
 ready_in_place p line fresh deed seat after items reply r anew numbered marked = record {
   anew = only_anew seat.number items anew;
   whatever_follows = λ logs more follows more_anew.
@@ -130,8 +130,8 @@ ready_in_place p line fresh deed seat after items reply r anew numbered marked =
         with_left logs m (more m),
         ap (λ (t : List Item). option_map (taken_ready p logs line fresh seat) (read p.dialect p.armed seat.state (process_of p.dialect p.queries seat.status seat.cache deed) t)) here
             ∙ ap (option_map (taken_ready p logs line fresh seat)) (r.whatever_follows (more m) (more_anew m))
-            ∙ ap (λ (s : Seat). Some (readied p (with_left logs m (more m)) line s (refusal_of fresh s reply))) same
-            ∙ ap (λ (t : Taken). Some t) (readied_is p (with_left logs m (more m)) line after (refusal_of fresh after reply)),
+            ∙ ap (λ (s : Seat). Some (readied p (with_left logs m (more m)) line s (get_refusal fresh s reply))) same
+            ∙ ap (λ (t : Taken). Some t) (readied_is p (with_left logs m (more m)) line after (get_refusal fresh after reply)),
         left_after logs more m items follows,
       );
 }

@@ -72,6 +72,7 @@ module _ (key : StatementCacheKey) where
   pub holds_read : (d : Dialect) (queries : List Declared) (deed : Deed) (items : List Item) (r : Register) → LeavesUnbounded deed → HoldsKey key r → HoldsKey key (register_read d queries deed items r)
   holds_read d queries (deeds.Batch text) items r keeps h = h
   holds_read d queries deeds.Begin items r keeps h = h
+  holds_read d queries (deeds.BeginBy form) items r keeps h = h
   holds_read d queries deeds.Commit items r keeps h = h
   holds_read d queries deeds.Rollback items r keeps h = h
   holds_read d queries deeds.TestBegin items r keeps h = h
@@ -128,6 +129,7 @@ pub deed_none : (d : Dialect) (queries : List Declared) (deed : Deed) (key : Sta
     → Each (λ (i : Item). PreparesNone i.call) items
 deed_none d queries (deeds.Batch text) key r items has h own = absurd has
 deed_none d queries deeds.Begin key r items has h own = absurd has
+deed_none d queries (deeds.BeginBy form) key r items has h own = absurd has
 deed_none d queries deeds.Commit key r items has h own = absurd has
 deed_none d queries deeds.Rollback key r items has h own = absurd has
 deed_none d queries deeds.TestBegin key r items has h own = absurd has
@@ -189,6 +191,7 @@ pub deed_holds : (d : Dialect) (queries : List Declared) (deed : Deed) (q : Quer
     → HoldsKey (key_of q (types_for d q)) (register_read d queries deed items r)
 deed_holds d queries (deeds.Batch text) q r items is own given = absurd (cc)
 deed_holds d queries deeds.Begin q r items is own given = absurd (cc)
+deed_holds d queries (deeds.BeginBy form) q r items is own given = absurd (cc)
 deed_holds d queries deeds.Commit q r items is own given = absurd (cc)
 deed_holds d queries deeds.Rollback q r items is own given = absurd (cc)
 deed_holds d queries deeds.TestBegin q r items is own given = absurd (cc)

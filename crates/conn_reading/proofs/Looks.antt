@@ -2,19 +2,23 @@
 use Rattle.std.proofs.Common.{◌≡◌, ℕ, Bool, true, false, List, [], ◌∷◌, Option, Some, None, Ok, Err, inl, inr, sym, subst}
 use Rattle.std.specs.Prelude.{⊤, nat_lt, if◌then◌else◌}
 use Rattle.conn_result.specs.declared.error.Error.{Error}
+use Rattle.conn_model.specs.Nuls.{nul_fault}
 use Rattle.conn_model.specs.Process.{Process, Stop, Ask, Look, Tell, Heard, given_rows, map_process, plain_heard}
 use Rattle.conn_model.specs.States.{State, told_of}
 use Rattle.conn_model.specs.declared.item.Call.{Call}
 use Rattle.conn_model.specs.declared.item.Call.TheVariants.{Fetch}
 use Rattle.conn_model.specs.declared.item.Dialect.{Dialect}
 use Rattle.conn_model.specs.declared.item.Item.{Item}
-use Rattle.conn_manager.specs.Manages.{Reply, begin_process, begin_in, with_test_mark, begin_test_in, begin_test_process, commit_process, commit_in, rollback_process, rollback_in, committed, uncommitted, uncommitted_in, rolls_back, try_text, done}
+use Rattle.conn_manager.specs.Manages.{Reply, begin_process, begin_in, begin_sql_in, begin_sql_process, begun, with_test_mark, begin_test_in, begin_test_process, commit_process, commit_in, rollback_process, rollback_in, committed, uncommitted, uncommitted_in, rolls_back, try_text, done}
 use Rattle.conn_manager.specs.Statuses.{Status, retold, reply_of}
+use Rattle.conn_manager.specs.Transactions.{form_errors}
+use Rattle.conn_manager.specs.declared.rollback_errors.RollbackErrors.{RollbackErrors}
+use Rattle.conn_manager.specs.declared.rollback_errors.RollbackErrors.TheVariants.{AllButBroken}
 use Rattle.conn_manager.specs.declared.status.InTransactionStatus.{InTransactionStatus}
 use Rattle.conn_manager.specs.declared.status.TransactionManagerStatus.TheVariants.{Valid, InError}
 use Rattle.conn_script.specs.declared.command.BlockKind.{BlockKind}
-use Rattle.conn_script.specs.declared.command.BlockKind.TheVariants.{Plain, Test}
-use Rattle.conn_reading.specs.Asking.{rollback_answer, with_answer, close_process}
+use Rattle.conn_script.specs.declared.command.BlockKind.TheVariants.{Plain, Test, Form}
+use Rattle.conn_reading.specs.Asking.{rollback_answer, with_answer, close_process, keep_process}
 use Rattle.conn_reading.specs.Owning.{IsText}
 use Rattle.conn_reading.specs.Reading.{Reads, heard_with}
 use Rattle.conn_reading.specs.Sessions.{Each}
@@ -105,6 +109,18 @@ pub begins_text : (d : Dialect) (s : Status) → Texts false (begin_process d s)
 begins_text d (Valid v) = begin_texts d (Valid v) v.in_transaction
 begins_text d InError = tt
 
+begin_by_texts : (d : Dialect) (text : List ℕ) (place : Option ℕ) (s : Status) → Texts false (try_text place d text s (λ r s1. Stop (begun r s1)))
+begin_by_texts d text None s = (tt, λ h. tt)
+begin_by_texts d text (Some place) s = tt
+
+begin_sql_texts : (d : Dialect) (text : List ℕ) (s : Status) (o : Option InTransactionStatus) → Texts false (begin_sql_in d text s o)
+begin_sql_texts d text s None = begin_by_texts d text (nul_fault d text) s
+begin_sql_texts d text s (Some t) = tt
+
+pub begins_by_text : (d : Dialect) (text : List ℕ) (s : Status) → Texts false (begin_sql_process d text s)
+begins_by_text d text (Valid v) = begin_sql_texts d text (Valid v) v.in_transaction
+begins_by_text d text InError = tt
+
 pub commits_text : (d : Dialect) (s : Status) → Texts false (commit_process d s)
 commits_text d (Valid v) = commit_texts d (Valid v) v.in_transaction
 commits_text d InError = tt
@@ -121,9 +137,13 @@ pub test_begins_text : (d : Dialect) (s : Status) → Texts false (begin_test_pr
 test_begins_text d (Valid v) = begin_test_texts d (Valid v) v.in_transaction
 test_begins_text d InError = tt
 
+keeps_text : (errors : RollbackErrors) (answer : Reply) (d : Dialect) (s : Status) → Texts false (keep_process errors answer d s)
+keeps_text errors (Ok u) d s = commits_text d s
+keeps_text errors (Err e) d s = texts_map (with_answer (rollback_answer errors e)) false (rollback_process d s) (rollbacks_text d s)
+
 pub closings_text : (kind : BlockKind) (answer : Reply) (d : Dialect) (s : Status) → Texts false (close_process kind answer d s)
-closings_text Plain (Ok u) d s = commits_text d s
-closings_text Plain (Err e) d s = texts_map (with_answer (rollback_answer e)) false (rollback_process d s) (rollbacks_text d s)
+closings_text Plain answer d s = keeps_text AllButBroken answer d s
+closings_text (Form form) answer d s = keeps_text (form_errors form) answer d s
 closings_text Test answer d s = texts_map (with_answer (λ _. answer)) false (rollback_process d s) (rollbacks_text d s)
 
 -- ---- a text

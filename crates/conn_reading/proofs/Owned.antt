@@ -5,6 +5,7 @@ use Rattle.std.specs.Option.{option_map}
 use Rattle.std.proofs.Math.Seq.{take-append_seam}
 use Rattle.std.proofs.lemmas.Bool.Decides.{leb_tells}
 use Rattle.conn_result.specs.declared.pool.Error.{Error as PoolError}
+use Rattle.conn_model.specs.Beginnings.{form_text}
 use Rattle.conn_model.specs.Caches.{same_size, Known, Register}
 use Rattle.conn_model.specs.Nuls.{nul_fault}
 use Rattle.conn_model.specs.Process.{Process, Stop, map_process}
@@ -12,7 +13,7 @@ use Rattle.conn_model.specs.States.{State}
 use Rattle.conn_model.specs.declared.item.Dialect.{Dialect}
 use Rattle.conn_model.specs.declared.item.Item.{Item}
 use Rattle.conn_model.specs.declared.cache.CacheSize.{CacheSize}
-use Rattle.conn_manager.specs.Manages.{Done, begin_process, begin_test_process, commit_process, rollback_process, send_process}
+use Rattle.conn_manager.specs.Manages.{Done, begin_process, begin_sql_process, begin_test_process, commit_process, rollback_process, send_process}
 use Rattle.conn_manager.specs.Statuses.{Status}
 use Rattle.conn_cache.specs.QueryProcesses.{ping_view, resized, types_for}
 use Rattle.conn_cache.specs.QueryViews.{QueryView}
@@ -25,7 +26,7 @@ use Rattle.conn_script.specs.declared.command.QueryCall.{QueryCall}
 use Rattle.conn_script.specs.declared.request.Request.{Request}
 use Rattle.conn_script.specs.declared.request.Request.TheVariants.{Get, Put, On}
 use Rattle.conn_script.specs.declared.request.Verb.{Verb}
-use Rattle.conn_reading.specs.Answered.{ServerLogs, Progress, Taken, readied, reads, reads_deed, reads_get, reads_on, reads_ready, refusal_of, seat_after, taken_on, taken_ready, with_blocks, with_left, with_slots}
+use Rattle.conn_reading.specs.Answered.{ServerLogs, Progress, Taken, readied, reads, reads_deed, reads_get, reads_on, reads_ready, get_refusal, seat_after, taken_on, taken_ready, with_blocks, with_left, with_slots}
 use Rattle.conn_reading.specs.Asking.{Outcome, check_deed, close_process, declared_process, find_query, process_of, query_call_process, told_as, view_of}
 use Rattle.conn_reading.specs.Blocks.{block_on, deed_of}
 use Rattle.conn_reading.specs.Owning.{EachOwn, HandsOut, HasRegister, IsCallOf, IsOwn, IsOwnDeed, IsOwnOf, IsText, OwnAt, OwnGet, OwnItems, OwnKept, OwnOn, last_given, names_of, read_of, register_given, register_queried, register_read}
@@ -36,7 +37,7 @@ use Rattle.conn_reading.specs.declared.deed.Deed.{Deed}
 use Rattle.conn_reading.specs.declared.deed.Deed.TheVariants as deeds
 use Rattle.conn_reading.proofs.ByNumber.{at_past, at_within, at-set}
 use Rattle.conn_reading.proofs.ItemsRead.{reads_front, reads_unmap}
-use Rattle.conn_reading.proofs.Looks.{Texts, LooksWell, begins_text, closings_text, commits_text, reads_so, rollbacks_text, so_looks, test_begins_text, text_asks, texts_map}
+use Rattle.conn_reading.proofs.Looks.{Texts, LooksWell, begins_by_text, begins_text, closings_text, commits_text, reads_so, rollbacks_text, so_looks, test_begins_text, text_asks, texts_map}
 use Rattle.conn_reading.proofs.Queries.{DeedAsksOwn, call_own, counter_is, own_register, own_rise, own_so, ping_own}
 use Rattle.conn_reading.proofs.Rising.{RisesTo, texts_unnamed}
 
@@ -54,6 +55,7 @@ told_looks c p w = so_looks (λ call text. IsText call) false (map_process (told
 pub command_looks : (d : Dialect) (queries : List Declared) (S : Status) (c : Known) (deed : Deed) → LooksWell false (process_of d queries S c deed)
 command_looks d queries S c (deeds.Batch text) = told_looks c (send_process d text S) (text_asks d text (nul_fault d text) S)
 command_looks d queries S c deeds.Begin = told_looks c (begin_process d S) (begins_text d S)
+command_looks d queries S c (deeds.BeginBy form) = told_looks c (begin_sql_process d (form_text form) S) (begins_by_text d (form_text form) S)
 command_looks d queries S c deeds.Commit = told_looks c (commit_process d S) (commits_text d S)
 command_looks d queries S c deeds.Rollback = told_looks c (rollback_process d S) (rollbacks_text d S)
 command_looks d queries S c deeds.TestBegin = told_looks c (begin_test_process d S) (test_begins_text d S)
@@ -158,6 +160,8 @@ module _ (d : Dialect) (s : State) (S : Status) (queries : List Declared) (c : K
   deed_owns (deeds.Batch text) reads =
       let h = texts_own d s c (send_process d text S) items a end (text_asks d text (nul_fault d text) S) reads in record { own = h.own; register = ap (λ (x : Known). x.register) h.cache; names = h.names }
   deed_owns deeds.Begin reads = let h = texts_own d s c (begin_process d S) items a end (begins_text d S) reads in record { own = h.own; register = ap (λ (x : Known). x.register) h.cache; names = h.names }
+  deed_owns (deeds.BeginBy form) reads =
+      let h = texts_own d s c (begin_sql_process d (form_text form) S) items a end (begins_by_text d (form_text form) S) reads in record { own = h.own; register = ap (λ (x : Known). x.register) h.cache; names = h.names }
   deed_owns deeds.Commit reads = let h = texts_own d s c (commit_process d S) items a end (commits_text d S) reads in record { own = h.own; register = ap (λ (x : Known). x.register) h.cache; names = h.names }
   deed_owns deeds.Rollback reads = let h = texts_own d s c (rollback_process d S) items a end (rollbacks_text d S) reads in record { own = h.own; register = ap (λ (x : Known). x.register) h.cache; names = h.names }
   deed_owns deeds.TestBegin reads = let h = texts_own d s c (begin_test_process d S) items a end (test_begins_text d S) reads in record { own = h.own; register = ap (λ (x : Known). x.register) h.cache; names = h.names }
@@ -257,7 +261,7 @@ own_ready p logs line fresh (Some deed) seat t is = by_read (read p.dialect p.ar
     by_read None e i = absurd (cc)
     by_read (Some r) e i =
         let same : taken_ready p logs line fresh seat r ≡ t = cc in
-        subst (OwnKept p logs (Some deed) seat) same (readied_own p logs line deed seat r t (refusal_of fresh (seat_after seat (length (logs seat.number)) r) r.value.reply) e)
+        subst (OwnKept p logs (Some deed) seat) same (readied_own p logs line deed seat r t (get_refusal fresh (seat_after seat (length (logs seat.number)) r) r.value.reply) e)
 
 own_get : (p : Progress) (logs : ServerLogs) (line : ℕ) (slots : List (Option Seat)) (t : Taken) → reads_get p logs line slots ≡ Some t → OwnGet p logs slots t
 own_get p logs line [] t is = tt

@@ -9,10 +9,11 @@ use Rattle.std.proofs.lemmas.Slice.Eq.{bytes_eq-Decides}
 use Rattle.conn_model.specs.Classes.{class, begins, is_begin, is_built, is_write, same_text, number_behind}
 use Rattle.conn_model.specs.Numbers.{number}
 use Rattle.conn_script.specs.Binds.{binds_named}
-use Rattle.conn_script.specs.Drafts.{Draft, empty_draft, command_added, with_command, query_added, with_query, with_refused, with_refused_attempt, with_refused_row, with_row, can_close, if_closable}
-use Rattle.conn_script.specs.Grammar.{connection_alone, query_call, size_named, block_named, act_from, act_of, with_act, with_declared, with_query_row, with_query_words, with_attempt_refusal, with_item_refusal, with_row_refusal, with_words, with_text, with_line, next, lines_of, judged_last, or_bad, judged, script_of}
+use Rattle.conn_script.specs.BlockForms.{block_named}
+use Rattle.conn_script.specs.Drafts.{Draft, empty_draft, command_added, with_command, query_added, with_query, with_refused, with_refused_attempt, with_refused_row, with_row, with_url, can_close, if_closable}
+use Rattle.conn_script.specs.Grammar.{connection_alone, query_call, size_named, act_from, act_of, with_act, with_declared, with_given_url, with_query_row, with_query_words, with_attempt_refusal, with_item_refusal, with_row_refusal, with_words, with_text, with_line, next, lines_of, judged_last, or_bad, judged, script_of}
 use Rattle.conn_script.specs.Options.{◌>>=◌, guard}
-use Rattle.conn_script.specs.Fields.{number_at, word_at}
+use Rattle.conn_script.specs.Fields.{number_at, url_of, word_at}
 use Rattle.conn_script.specs.Headers.{header_of}
 use Rattle.conn_script.specs.Plans.{query_row_of, refused_attempt_of, refused_of, refused_row_of}
 use Rattle.conn_script.specs.Queries.{declared_by, declared_of, id_at, is_query_text, query_text, safety_at}
@@ -179,7 +180,10 @@ declared_plain rest =
 abbrev pub DraftPlain : Draft → Type 0
 DraftPlain d = ScriptPlain d.script
 
--- a line more of the plan leaves the texts
+-- a line with the URL, or one more of the plan, leaves the texts
+given_url_plain : (d : Draft) (rest : Option (List ℕ)) → DraftPlain d → IfThere DraftPlain (with_given_url d rest)
+given_url_plain d rest h = there_bind DraftPlain (url_of rest) (with_url d) (λ url. there_guard DraftPlain _ _ (λ e. h))
+
 refusal_plain : (d : Draft) (rest : Option (List ℕ)) → DraftPlain d → IfThere DraftPlain (with_item_refusal d rest)
 refusal_plain d rest h = there_bind DraftPlain (refused_of d.script.dialect rest) (with_refused d) (λ r. there_guard DraftPlain _ _ (λ e. h))
 
@@ -212,9 +216,10 @@ query_words_plain n d first rest h =
 
 words_plain : (n : ℕ) (d : Draft) (line : List ℕ × Option (List ℕ)) → DraftPlain d → IfThere DraftPlain (with_words n d line)
 words_plain n d line h =
-    there_either (bytes_eq line.0 (codes "refuse")) (with_item_refusal d line.1) _ (refusal_plain d line.1 h)
+    there_either (bytes_eq line.0 (codes "url")) (with_given_url d line.1) _ (given_url_plain d line.1 h)
+    (there_either (bytes_eq line.0 (codes "refuse")) (with_item_refusal d line.1) _ (refusal_plain d line.1 h)
     (there_either (bytes_eq line.0 (codes "refuserow")) (with_row_refusal d line.1) _ (row_refusal_plain d line.1 h)
-    (there_either (bytes_eq line.0 (codes "noconnect")) (with_attempt_refusal d line.1) _ (attempt_refusal_plain d line.1 h) (query_words_plain n d line.0 line.1 h)))
+    (there_either (bytes_eq line.0 (codes "noconnect")) (with_attempt_refusal d line.1) _ (attempt_refusal_plain d line.1 h) (query_words_plain n d line.0 line.1 h))))
 
 text_plain : (n : ℕ) (d : Draft) (line : List ℕ) → DraftPlain d → IfThere DraftPlain (with_text n d line)
 text_plain n d line h = there_bind_if DraftPlain DraftPlain (with_words n d (split_at 32 line)) if_closable (words_plain n d (split_at 32 line) h) (λ e g. there_guard DraftPlain (can_close e) e (λ c. g))

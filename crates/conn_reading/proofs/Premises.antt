@@ -25,7 +25,7 @@ use Rattle.conn_report.specs.declared.entry.Reply.TheVariants as replies
 use Rattle.conn_script.specs.Grammar.{script_of}
 use Rattle.conn_script.specs.declared.command.Script.{Script}
 use Rattle.conn_script.specs.Requests.{request_of}
-use Rattle.conn_script.specs.declared.command.BlockKind.TheVariants.{Plain, Test}
+use Rattle.conn_script.specs.declared.command.BlockKind.TheVariants.{Plain, Test, Form}
 use Rattle.conn_script.specs.declared.command.Command.{Command}
 use Rattle.conn_reading.specs.Answered.{ServerLogs, answered}
 use Rattle.conn_manager.specs.Agrees.{is_mysql}
@@ -179,6 +179,8 @@ answer_keeps Rolls (Ok u) k h = dropped_keeps k.levels h
 answer_keeps Rolls (Err e) k h = h
 answer_keeps (Closes Plain) (Ok u) k h = merged_keeps k.lowest k.levels h
 answer_keeps (Closes Plain) (Err e) k h = dropped_keeps k.levels h
+answer_keeps (Closes (Form form)) (Ok u) k h = merged_keeps k.lowest k.levels h
+answer_keeps (Closes (Form form)) (Err e) k h = dropped_keeps k.levels h
 answer_keeps (Closes Test) a k h = dropped_keeps k.levels h
 answer_keeps Sends a k h = h
 
@@ -195,6 +197,7 @@ kind_live Begins k h = tt
 kind_live Commits k h = not_doomed k.levels h
 kind_live Rolls k h = tt
 kind_live (Closes Plain) k h = not_doomed k.levels h
+kind_live (Closes (Form form)) k h = not_doomed k.levels h
 kind_live (Closes Test) k h = tt
 kind_live Sends k h = tt
 

@@ -16,7 +16,7 @@ use Rattle.conn_script.specs.declared.command.Customizer.{Customizer}
 use Rattle.conn_script.specs.declared.command.Customizer.TheVariants as customizers
 use Rattle.conn_script.specs.declared.command.Word.TheVariants as words
 use Rattle.conn_model.specs.Caches.{Register, nothing_known}
-use Rattle.conn_reading.specs.Answered.{ServerLogs, Progress, Taken, new_seat, readied, reads_attempt, reads_opened, reads_opening, reads_ready, reads_set_up, refusal_at, refusal_of, seat_after, taken_ready, unopened, attempted, with_left, with_opened}
+use Rattle.conn_reading.specs.Answered.{ServerLogs, Progress, Taken, new_seat, readied, reads_attempt, reads_opened, reads_opening, reads_ready, reads_set_up, refusal_at, get_refusal, seat_after, taken_ready, unopened, attempted, with_left, with_opened}
 use Rattle.conn_reading.specs.Asking.{Outcome, Policy, customizer_deed, get_deed, process_of}
 use Rattle.conn_reading.specs.Folds.{AllKeepLive, alone}
 use Rattle.conn_reading.specs.Histories.{Setup, operation_process, Step, step_items, StartsSetUp}
@@ -51,8 +51,8 @@ readied_shown p logs line seat after (Some e) same past = record { connection = 
 
 ready_shown : (p : Progress) (logs : ServerLogs) (line : ℕ) (fresh : Bool) (deed : Option Deed) (seat : Seat) (t : Taken) → reads_ready p logs line fresh deed seat ≡ Some t → IsShown seat t
 ready_shown p logs line fresh None seat t is =
-    let same : readied p logs line seat (refusal_of fresh seat replies.Ok) ≡ t = cc in
-    subst (IsShown seat) same (readied_shown p logs line seat seat (refusal_of fresh seat replies.Ok) refl (omega arith))
+    let same : readied p logs line seat (get_refusal fresh seat replies.Ok) ≡ t = cc in
+    subst (IsShown seat) same (readied_shown p logs line seat seat (get_refusal fresh seat replies.Ok) refl (omega arith))
 ready_shown p logs line fresh (Some deed) seat t is = by_read (read p.dialect p.armed seat.state (process_of p.dialect p.queries seat.status seat.cache deed) (logs seat.number)) is
   where
     by_read : (o : Option (Read Outcome)) → option_map (taken_ready p logs line fresh seat) o ≡ Some t → IsShown seat t
@@ -60,7 +60,7 @@ ready_shown p logs line fresh (Some deed) seat t is = by_read (read p.dialect p.
     by_read (Some r) i =
         let same : taken_ready p logs line fresh seat r ≡ t = cc in
         let after : Seat = seat_after seat (length (logs seat.number)) r in
-        subst (IsShown seat) same (readied_shown p (with_left logs seat.number r.left) line seat after (refusal_of fresh after r.value.reply) refl (omega arith))
+        subst (IsShown seat) same (readied_shown p (with_left logs seat.number r.left) line seat after (get_refusal fresh after r.value.reply) refl (omega arith))
 
 -- ---- a setup, whatever its entry is
 

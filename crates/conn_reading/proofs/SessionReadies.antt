@@ -17,7 +17,7 @@ use Rattle.conn_report.specs.declared.entry.Reply.{Reply}
 use Rattle.conn_report.specs.declared.entry.Reply.TheVariants as replies
 use Rattle.conn_script.specs.declared.command.Word.TheVariants as words
 use Rattle.conn_script.specs.declared.query.Declared.{Declared}
-use Rattle.conn_reading.specs.Answered.{ServerLogs, Progress, Taken, readied, reads_ready, refusal_of, seat_after, taken_ready, with_left}
+use Rattle.conn_reading.specs.Answered.{ServerLogs, Progress, Taken, readied, reads_ready, get_refusal, seat_after, taken_ready, with_left}
 use Rattle.conn_reading.specs.Asking.{Outcome, Policy, asked_as, process_of, reply_as, reply_made, told_as}
 use Rattle.conn_reading.specs.Folds.{Kind, Stack, KeepsLive, kind_of}
 use Rattle.conn_reading.specs.Reading.{Read, Reads, read}
@@ -70,6 +70,7 @@ module _ (d : Dialect) (s : State) (S : Status) (queries : List Declared) (c : K
   get_reply : (deed : Deed) → IsGetDeed deed → Reads d s (process_of d queries S c deed) items o end → IsPlainReply o.reply
   get_reply (deeds.Batch text) asks reads = absurd asks
   get_reply deeds.Begin asks reads = told_plain d s c (begin_process d S) items o end reads
+  get_reply (deeds.BeginBy form) asks reads = absurd asks
   get_reply deeds.Commit asks reads = absurd asks
   get_reply deeds.Rollback asks reads = absurd asks
   get_reply deeds.TestBegin asks reads = told_plain d s c (begin_test_process d S) items o end reads
@@ -82,6 +83,7 @@ module _ (d : Dialect) (s : State) (S : Status) (queries : List Declared) (c : K
 get_live : (queries : List Declared) (c : Known) (deed : Deed) (a : Answer) (k : Stack) → IsGetDeed deed → KeepsLive (kind_of (operation_of queries c deed)) a k
 get_live queries c (deeds.Batch text) a k asks = absurd asks
 get_live queries c deeds.Begin a k asks = tt
+get_live queries c (deeds.BeginBy form) a k asks = absurd asks
 get_live queries c deeds.Commit a k asks = absurd asks
 get_live queries c deeds.Rollback a k asks = absurd asks
 get_live queries c deeds.TestBegin a k asks = tt
@@ -103,23 +105,23 @@ shown_status None seat = Some seat.status
 shown_status (Some e) seat = None
 
 -- it does to the stack what the reply did
-shows : (kind : Kind) (fresh : Bool) (seat : Seat) (r : Reply) (k : Stack) → IsPlainReply r → after_kind kind (shown_reply (refusal_of fresh seat r)) k ≡ after_kind kind r k
-shows kind fresh seat r k (inl ok) = subst (λ (x : Reply). after_kind kind (shown_reply (refusal_of fresh seat x)) k ≡ after_kind kind x k) (sym ok) (by_case (fresh && is_broken seat.status))
+shows : (kind : Kind) (fresh : Bool) (seat : Seat) (r : Reply) (k : Stack) → IsPlainReply r → after_kind kind (shown_reply (get_refusal fresh seat r)) k ≡ after_kind kind r k
+shows kind fresh seat r k (inl ok) = subst (λ (x : Reply). after_kind kind (shown_reply (get_refusal fresh seat x)) k ≡ after_kind kind x k) (sym ok) (by_case (fresh && is_broken seat.status))
   where
     by_case : (b : Bool) → after_kind kind (shown_reply (if b then Some (pooling.LeftOpen seat.number) else None)) k ≡ after_kind kind replies.Ok k
     by_case true = refl
     by_case false = refl
-shows kind fresh seat r k (inr refused) = subst (λ (x : Reply). after_kind kind (shown_reply (refusal_of fresh seat x)) k ≡ after_kind kind x k) (sym refused.1) refl
+shows kind fresh seat r k (inr refused) = subst (λ (x : Reply). after_kind kind (shown_reply (get_refusal fresh seat x)) k ≡ after_kind kind x k) (sym refused.1) refl
 
 -- one that is handed out is clean
 none_broken : (b : Bool) (e : PoolError) → (let o : Option PoolError = if b then Some e else None in o ≡ None) → b ≡ false
 none_broken true e is = absurd (cc)
 none_broken false e is = refl
 
-ready_clean : (fresh : Bool) (seat : Seat) (r : Reply) → IsPlainReply r → (fresh ≡ false → ((e : Error) × (r ≡ replies.Error e)) ⊎ (is_broken seat.status ≡ false)) → refusal_of fresh seat r ≡ None → is_broken seat.status ≡ false
+ready_clean : (fresh : Bool) (seat : Seat) (r : Reply) → IsPlainReply r → (fresh ≡ false → ((e : Error) × (r ≡ replies.Error e)) ⊎ (is_broken seat.status ≡ false)) → get_refusal fresh seat r ≡ None → is_broken seat.status ≡ false
 ready_clean fresh seat r (inr refused) checked is =
-    let e : refusal_of fresh seat (replies.Error refused.0) ≡ None = subst (λ (x : Reply). refusal_of fresh seat x ≡ None) refused.1 is in absurd (cc)
-ready_clean true seat r (inl ok) checked is = none_broken (is_broken seat.status) (pooling.LeftOpen seat.number) (subst (λ (x : Reply). refusal_of true seat x ≡ None) ok is)
+    let e : get_refusal fresh seat (replies.Error refused.0) ≡ None = subst (λ (x : Reply). get_refusal fresh seat x ≡ None) refused.1 is in absurd (cc)
+ready_clean true seat r (inl ok) checked is = none_broken (is_broken seat.status) (pooling.LeftOpen seat.number) (subst (λ (x : Reply). get_refusal true seat x ≡ None) ok is)
 ready_clean false seat r (inl ok) checked is = elim (checked refl) [
   | inl refused ↦ (let e : replies.Ok ≡ replies.Error refused.0 = sym ok ∙ refused.1 in absurd (cc))
   | inr clean ↦ clean
@@ -178,13 +180,13 @@ module _ (d : Dialect) (logs left : ServerLogs) (policy : Policy) (tracks : Trac
     replied = let front = reads_front p.dialect p.armed seat.state (process_of p.dialect p.queries seat.status seat.cache deed) (left seat.number) r was_read in
         get_reply p.dialect seat.state seat.status p.queries seat.cache front.used r.value r.state deed gets front.each
 
-    folds : (e : Option PoolError) → refusal_of fresh after r.value.reply ≡ e → FoldsAs (Some deed) (shown_reply e) (operation_of p.queries seat.cache deed) reads.answer
+    folds : (e : Option PoolError) → get_refusal fresh after r.value.reply ≡ e → FoldsAs (Some deed) (shown_reply e) (operation_of p.queries seat.cache deed) reads.answer
     folds e refused = record {
       stack = λ k. ap (λ (o : Option PoolError). after_kind (deed_kind deed) (shown_reply o) k) (sym refused) ∙ shows (deed_kind deed) fresh after r.value.reply k replied ∙ reads.stack k;
       live = λ k l. get_live p.queries seat.cache deed reads.answer.reply k gets;
     }
 
-    asked_took : (e : Option PoolError) → refusal_of fresh after r.value.reply ≡ e → (fresh ≡ false → IsChecked r.value) → Took (readied p (with_left left seat.number r.left) line after e)
+    asked_took : (e : Option PoolError) → get_refusal fresh after r.value.reply ≡ e → (fresh ≡ false → IsChecked r.value) → Took (readied p (with_left left seat.number r.left) line after e)
     asked_took None refused checked = record {
       tracks = moved;
       progress = handed_keeps d logs (with_left left seat.number r.left) moved (held p.context.slots) p.context.out p.context.opened after moved_all after_is away;
@@ -232,9 +234,9 @@ module _ (d : Dialect) (logs left : ServerLogs) (policy : Policy) (tracks : Trac
   pub ready_keeps : (deed : Option Deed) (t : Taken) → AsksWell fresh deed → IsPlainDeed p.queries deed → asks true ≡ deed → reads_ready p left line fresh deed seat ≡ Some t
       → TakenKeeps d logs policy tracks p.context.opened asks p.context.blocks p.context.blocks t
   ready_keeps None t well plain asked took =
-      let e : readied p left line seat (refusal_of fresh seat replies.Ok) ≡ t = cc in
+      let e : readied p left line seat (get_refusal fresh seat replies.Ok) ≡ t = cc in
       subst (TakenKeeps d logs policy tracks p.context.opened asks p.context.blocks p.context.blocks) e
-      (still_took d logs left policy tracks p line asks fresh seat is_of h is away (refusal_of fresh seat replies.Ok) asked (λ none. ready_clean fresh seat replies.Ok (inl refl) (λ kept. inr (clean kept)) none))
+      (still_took d logs left policy tracks p line asks fresh seat is_of h is away (get_refusal fresh seat replies.Ok) asked (λ none. ready_clean fresh seat replies.Ok (inl refl) (λ kept. inr (clean kept)) none))
   ready_keeps (Some deed) t well plain asked took =
       by_read (read p.dialect p.armed seat.state (process_of p.dialect p.queries seat.status seat.cache deed) (left seat.number)) refl took
     where
@@ -245,4 +247,4 @@ module _ (d : Dialect) (logs left : ServerLogs) (policy : Policy) (tracks : Trac
           let same : taken_ready p left line fresh seat r ≡ t = cc in
           let after : Seat = seat_after seat (length (left seat.number)) r in
           subst (TakenKeeps d logs policy tracks p.context.opened asks p.context.blocks p.context.blocks) same
-          (asked_took d logs left policy tracks p line asks fresh seat is_of h is away deed r (well_gets fresh deed well) plain asked e (refusal_of fresh after r.value.reply) refl (checked_read deed r well e))
+          (asked_took d logs left policy tracks p line asks fresh seat is_of h is away deed r (well_gets fresh deed well) plain asked e (get_refusal fresh after r.value.reply) refl (checked_read deed r well e))

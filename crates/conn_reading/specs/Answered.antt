@@ -118,9 +118,9 @@ abbrev pub hands_out : Progress → ServerLogs → ℕ → Seat → Taken
 hands_out p logs line seat = taken (entry_on line words.Get replies.Ok seat) (record p { context = record p.context { out = slice_set p.context.out seat.number (Some seat) } }) logs
 
 -- why a connection isn't handed out: what it was asked was refused, or it is a new one with a transaction left open
-abbrev pub refusal_of : Bool → Seat → Reply → Option PoolError
-refusal_of fresh seat (replies.Error e) = Some (pooling.QueryError e seat.number)
-refusal_of fresh seat _ = if fresh && is_broken seat.status then Some (pooling.LeftOpen seat.number) else None
+abbrev pub get_refusal : Bool → Seat → Reply → Option PoolError
+get_refusal fresh seat (replies.Error e) = Some (pooling.QueryError e seat.number)
+get_refusal fresh seat _ = if fresh && is_broken seat.status then Some (pooling.LeftOpen seat.number) else None
 
 -- the entry of a connection that is closed in place of being handed out
 abbrev pub closed_entry : ℕ → Seat → PoolError → Entry
@@ -135,11 +135,11 @@ readied p logs line seat (Some e) = taken (closed_entry line seat e) (empties p)
 abbrev pub taken_ready : Progress → ServerLogs → ℕ → Bool → Seat → Read Outcome → Taken
 taken_ready p logs line fresh seat r =
     let after = seat_after seat (length (logs seat.number)) r in
-    readied p (with_left logs seat.number r.left) line after (refusal_of fresh after r.value.reply)
+    readied p (with_left logs seat.number r.left) line after (get_refusal fresh after r.value.reply)
 
 -- a connection, new or kept, is asked this deed, or nothing
 abbrev pub reads_ready : Progress → ServerLogs → ℕ → Bool → Option Deed → Seat → Option Taken
-reads_ready p logs line fresh None seat = Some (readied p logs line seat (refusal_of fresh seat replies.Ok))
+reads_ready p logs line fresh None seat = Some (readied p logs line seat (get_refusal fresh seat replies.Ok))
 reads_ready p logs line fresh (Some deed) seat = option_map (taken_ready p logs line fresh seat) (read p.dialect p.armed seat.state (process_of p.dialect p.queries seat.status seat.cache deed) (logs seat.number))
 
 -- the code with which the next attempt is refused, where it is: no number is left, or the plan says so

@@ -4,6 +4,7 @@ use Rattle.conn_result.specs.declared.error.Error.{Error}
 use Rattle.conn_result.specs.declared.error.Error.TheVariants.{NotFound}
 use Rattle.conn_result.specs.Optional.{optional}
 use Rattle.conn_model.specs.Armed.{Values}
+use Rattle.conn_model.specs.Beginnings.{form_text}
 use Rattle.conn_model.specs.Process.{Process, Stop, map_process}
 use Rattle.conn_model.specs.declared.item.Dialect.{Dialect}
 use Rattle.conn_model.specs.declared.value.Bind.{Bind}
@@ -12,14 +13,16 @@ use Rattle.conn_cache.specs.QueryProcesses.{Asked, execute_process, ping_process
 use Rattle.conn_cache.specs.LoadProcesses.{load_process, rows_heard}
 use Rattle.conn_cache.specs.QueryViews.{QueryView}
 use Rattle.conn_drivers.specs.Loaded.{made_of}
-use Rattle.conn_manager.specs.Manages.{Done, done, Reply as Answer, send_process, begin_process, begin_test_process, commit_process, rollback_process}
+use Rattle.conn_manager.specs.Manages.{Done, done, Reply as Answer, send_process, begin_process, begin_sql_process, begin_test_process, commit_process, rollback_process}
 use Rattle.conn_manager.specs.Statuses.{Status}
-use Rattle.conn_manager.specs.Transactions.{is_broken_error}
+use Rattle.conn_manager.specs.Transactions.{form_errors, includes}
+use Rattle.conn_manager.specs.declared.rollback_errors.RollbackErrors.{RollbackErrors}
+use Rattle.conn_manager.specs.declared.rollback_errors.RollbackErrors.TheVariants.{AllButBroken}
 use Rattle.conn_report.specs.declared.entry.Reply.{Reply}
 use Rattle.conn_report.specs.declared.entry.Reply.TheVariants as replies
 use Rattle.conn_rows.specs.Lists.{first_answer, list_answer}
 use Rattle.conn_script.specs.declared.command.BlockKind.{BlockKind}
-use Rattle.conn_script.specs.declared.command.BlockKind.TheVariants.{Plain, Test}
+use Rattle.conn_script.specs.declared.command.BlockKind.TheVariants.{Plain, Test, Form}
 use Rattle.conn_script.specs.declared.command.Script.{Script}
 use Rattle.conn_script.specs.declared.command.Customizer.{Customizer}
 use Rattle.conn_script.specs.declared.command.Customizer.TheVariants.{Nop}
@@ -35,20 +38,24 @@ use Rattle.conn_reading.specs.declared.deed.Deed.TheVariants as deeds
 
 -- ---- how a block closes
 
--- after the error of a block: the rollback's error, or the block's where the rollback was Ok or found the manager in error
-abbrev pub rollback_answer : Error → Answer → Answer
-rollback_answer e (Ok u) = Err e
-rollback_answer e (Err r) = if is_broken_error r then Err e else Err r
+-- after the error of a block: that error, or one of these of the rollback in its place
+abbrev pub rollback_answer : RollbackErrors → Error → Answer → Answer
+rollback_answer errors e (Ok u) = Err e
+rollback_answer errors e (Err r) = if includes errors r then Err r else Err e
 
 -- another answer, with the status that is left
 abbrev pub with_answer : (Answer → Answer) → Done → Done
 with_answer f a = done (f a.reply) a.status
 
--- the call of a transaction with a closure that gave this answer: it is committed where that is Ok, and else rolled back; a
--- test's is rolled back whatever it gave, and has that answer
+-- a transaction whose closure gave this answer: it is committed where that is Ok, and else rolled back
+abbrev pub keep_process : RollbackErrors → Answer → Dialect → Status → Process Done
+keep_process errors (Ok u) d s = commit_process d s
+keep_process errors (Err e) d s = map_process (with_answer (rollback_answer errors e)) (rollback_process d s)
+
+-- the end of a block with this answer; a test's is rolled back whatever it gave, and has that answer
 abbrev pub close_process : BlockKind → Answer → Dialect → Status → Process Done
-close_process Plain (Ok u) d s = commit_process d s
-close_process Plain (Err e) d s = map_process (with_answer (rollback_answer e)) (rollback_process d s)
+close_process Plain answer d s = keep_process AllButBroken answer d s
+close_process (Form form) answer d s = keep_process (form_errors form) answer d s
 close_process Test answer d s = map_process (with_answer (λ _. answer)) (rollback_process d s)
 
 -- ---- what a deed asks
@@ -152,6 +159,7 @@ declared_process d call (Some q) s c = query_call_process d call q.shape (view_o
 abbrev pub process_of : Dialect → List Declared → Status → Known → Deed → Process Outcome
 process_of d queries s c (deeds.Batch text) = map_process (told_as c) (send_process d text s)
 process_of d queries s c deeds.Begin = map_process (told_as c) (begin_process d s)
+process_of d queries s c (deeds.BeginBy form) = map_process (told_as c) (begin_sql_process d (form_text form) s)
 process_of d queries s c deeds.Commit = map_process (told_as c) (commit_process d s)
 process_of d queries s c deeds.Rollback = map_process (told_as c) (rollback_process d s)
 process_of d queries s c deeds.TestBegin = map_process (told_as c) (begin_test_process d s)

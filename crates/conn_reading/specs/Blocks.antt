@@ -6,6 +6,7 @@ use Rattle.conn_manager.specs.Manages.{Reply as Answer}
 use Rattle.conn_report.specs.declared.entry.Reply.{Reply}
 use Rattle.conn_report.specs.declared.entry.Reply.TheVariants as replies
 use Rattle.conn_script.specs.declared.command.BlockKind.{BlockKind}
+use Rattle.conn_script.specs.declared.command.BlockKind.TheVariants.{Plain, Test, Form}
 use Rattle.conn_script.specs.declared.request.Request.{Request}
 use Rattle.conn_script.specs.declared.request.Request.TheVariants.{Get, Put, On}
 use Rattle.conn_script.specs.declared.request.Verb.{Verb}
@@ -23,6 +24,12 @@ block_on n (b ∷ bs) = if b.connection == n then Some b else None
 
 -- ---- what a command does
 
+-- how a block begins
+abbrev pub opening : BlockKind → Deed
+opening Plain = deeds.Begin
+opening Test = deeds.Begin
+opening (Form form) = deeds.BeginBy form
+
 -- outside of a block, or in one that is live; there is nothing to close
 abbrev pub plain_deed : Verb → Option Deed
 plain_deed (verbs.Batch text) = Some (deeds.Batch text)
@@ -33,7 +40,7 @@ plain_deed verbs.TestBegin = Some deeds.TestBegin
 plain_deed (verbs.Query call n) = Some (deeds.Query call n)
 plain_deed (verbs.Cache size) = Some (deeds.CacheSize size)
 plain_deed verbs.Ping = Some deeds.Ping
-plain_deed (verbs.Block kind) = Some deeds.Begin
+plain_deed (verbs.Block kind) = Some (opening kind)
 plain_deed verbs.End = None
 plain_deed verbs.Fail = None
 

@@ -16,7 +16,7 @@ use Rattle.conn_manager.specs.Statuses.{Status}
 use Rattle.conn_manager.specs.declared.status.InTransactionStatus.{InTransactionStatus}
 use Rattle.conn_manager.specs.declared.status.TransactionManagerStatus.TheVariants.{Valid, InError}
 use Rattle.conn_script.specs.declared.command.BlockKind.{BlockKind}
-use Rattle.conn_script.specs.declared.command.BlockKind.TheVariants.{Plain, Test}
+use Rattle.conn_script.specs.declared.command.BlockKind.TheVariants.{Plain, Test, Form}
 use Rattle.conn_reading.specs.Histories.{Operation, Begin, BeginBy, Commit, Rollback, TestBegin, Close, Asks, Step, step_items}
 use Rattle.conn_reading.specs.Verdicts.{is_refused_by, runs_class}
 
@@ -159,6 +159,8 @@ after_reply Commits (Ok u) k = merged k
 after_reply Rolls (Ok u) k = dropped k
 after_reply (Closes Plain) (Ok u) k = merged k
 after_reply (Closes Plain) (Err e) k = dropped k
+after_reply (Closes (Form form)) (Ok u) k = merged k
+after_reply (Closes (Form form)) (Err e) k = dropped k
 after_reply (Closes Test) r k = dropped k
 after_reply Sends r k = k
 after_reply Begins (Err e) k = k
@@ -216,6 +218,8 @@ KeepsLive Commits (Ok u) k = IsDoomed k.levels → ⊥
 KeepsLive Commits (Err e) k = ⊤
 KeepsLive (Closes Plain) (Ok u) k = IsDoomed k.levels → ⊥
 KeepsLive (Closes Plain) (Err e) k = ⊤
+KeepsLive (Closes (Form form)) (Ok u) k = IsDoomed k.levels → ⊥
+KeepsLive (Closes (Form form)) (Err e) k = ⊤
 KeepsLive (Closes Test) r k = ⊤
 KeepsLive Begins r k = ⊤
 KeepsLive Rolls r k = ⊤

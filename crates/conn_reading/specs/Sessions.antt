@@ -134,6 +134,7 @@ unfolded policy = record { mark = 0; stack = alone []; blocks = []; policy = pol
 abbrev pub deed_kind : Deed → Kind
 deed_kind (deeds.Batch text) = Sends
 deed_kind deeds.Begin = Begins
+deed_kind (deeds.BeginBy form) = Begins
 deed_kind deeds.Commit = Commits
 deed_kind deeds.Rollback = Rolls
 deed_kind deeds.TestBegin = Begins

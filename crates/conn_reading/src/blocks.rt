@@ -1,6 +1,6 @@
 //! The blocks of a session that are open.
 ghost use Rattle.std.specs.Prelude.{◌≡◌, ◌∷◌, [], IfOk, OnErr};
-ghost use Rattle.conn_reading.specs.Blocks.{block_on, blocks_after, blocks_told, closing, deed_in, deed_of, if_live, opening_state, plain_deed, with_refusal, without_block};
+ghost use Rattle.conn_reading.specs.Blocks.{block_on, blocks_after, blocks_told, closing, deed_in, deed_of, if_live, opening, opening_state, plain_deed, with_refusal, without_block};
 
 use crate::Deed;
 use conn_model::LentText;
@@ -44,19 +44,30 @@ impl Model for Blocks {
     ghost view = { λ b. reverse b.open.items };
 }
 
+/// How a block begins.
+fn opening<'a>(kind: BlockKind) -> Deed<'a>
+    ensures { result ≡ opening kind }
+{
+    match kind {
+        BlockKind::Plain | BlockKind::Test => Deed::Begin,
+        BlockKind::Form(form) => Deed::BeginBy(form),
+    }
+}
+
 /// What a command does outside of a block, or in one that is live.
 fn plain_deed<'a>(verb: &Verb<'a>) -> Option<Deed<'a>>
     ensures { result ≡ plain_deed verb.now }
 {
     match verb {
         Verb::Batch(text) => Some(Deed::Batch(LentText::new(text.as_str()))),
-        Verb::Begin | Verb::Block(_) => Some(Deed::Begin),
+        Verb::Begin => Some(Deed::Begin),
         Verb::Commit => Some(Deed::Commit),
         Verb::Rollback => Some(Deed::Rollback),
         Verb::TestBegin => Some(Deed::TestBegin),
         Verb::Query(call, query) => Some(Deed::Query(*call, *query)),
         Verb::Cache(size) => Some(Deed::CacheSize(*size)),
         Verb::Ping => Some(Deed::Ping),
+        Verb::Block(kind) => Some(opening(*kind)),
         Verb::End | Verb::Fail => None,
     }
 }

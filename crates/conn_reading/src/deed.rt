@@ -1,5 +1,5 @@
 //! What is done on a connection.
-use conn_model::{CacheSize, LentText};
+use conn_model::{BlockForm, CacheSize, LentText};
 use conn_result::QueryResult;
 use conn_script::{BlockKind, QueryCall};
 
@@ -8,6 +8,8 @@ use conn_script::{BlockKind, QueryCall};
 pub enum Deed<'a> {
     Batch(LentText<'a>),
     Begin,
+    /// A block begins by the text of its form.
+    BeginBy(BlockForm),
     Commit,
     Rollback,
     TestBegin,

@@ -49,22 +49,3 @@ pub enum PoolError {
     /// The front slot gave no connection.
     Error(Error),
 }
-
-#[cfg(test)]
-mod tests {
-    use super::*;
-
-    #[test]
-    fn want_of_memory_is_no_error_of_a_connection(rt: HostRuntime) {
-        let opening = Error::of_opening(ConnectionError::OutOfMemory);
-        assert!(rt; matches!(opening, Error::OutOfMemory));
-        let query = Error::of_query(crate::Error::OutOfMemory, 3);
-        assert!(rt; matches!(query, Error::OutOfMemory));
-    }
-
-    #[test]
-    fn an_error_of_a_query_has_the_number_of_its_connection(rt: HostRuntime) {
-        let query = Error::of_query(crate::Error::NotFound, 3);
-        assert!(rt; matches!(query, Error::QueryError(crate::Error::NotFound, 3)));
-    }
-}

@@ -4,8 +4,6 @@
 mod from_row;
 mod from_sql;
 mod row_reader;
-#[cfg(test)]
-mod tests;
 
 pub use from_row::FromRow;
 pub use from_sql::{FromSql, misfit};

@@ -1,5 +1,5 @@
 -- What the lines so far say, and what one line more adds.
-use Rattle.std.specs.Prelude.{ℕ, ◌+◌, ◌&&◌, ◌||◌, not, Bool, true, nat_le, nat_lt, List, [], ◌∷◌, ◌++◌, length, Option, codes}
+use Rattle.std.specs.Prelude.{ℕ, ◌+◌, ◌&&◌, ◌||◌, not, Bool, true, false, nat_le, nat_lt, List, [], ◌∷◌, ◌++◌, length, Option, codes}
 use Rattle.std.specs.Ordering.{nat_cmp}
 use Rattle.conn_model.specs.Armed.{armed_of, rows_of}
 use Rattle.conn_model.specs.declared.item.Dialect.{Dialect}
@@ -25,21 +25,24 @@ use Rattle.conn_script.specs.declared.request.Request.{Request}
 use Rattle.conn_script.specs.declared.request.Request.TheVariants.{On}
 use Rattle.conn_script.specs.declared.request.Verb.TheVariants.{Query}
 
--- a script so far, how many blocks are open, the connection that they name, and how many commands
--- ask for rows
+-- a script so far, how many blocks are open, the connection that they name, how many commands ask for
+-- rows, and whether a line gave the URL
 pub record Draft : Type 0 where
   pub script : Script
   pub blocks : ℕ
   pub inside : ℕ
   pub loads : ℕ
+  pub has_url : Bool
 
--- the draft of a script, its open blocks and the number of its commands that ask for rows
-abbrev pub draft_of : Script → ℕ → ℕ → ℕ → Draft
-draft_of script blocks inside loads = record {
+-- the draft of a script, its open blocks, the number of its commands that ask for rows, and whether a
+-- line gave its URL
+abbrev pub draft_of : Script → ℕ → ℕ → ℕ → Bool → Draft
+draft_of script blocks inside loads has_url = record {
   script = script;
   blocks = blocks;
   inside = inside;
   loads = loads;
+  has_url = has_url;
 }
 
 -- where a server of a dialect is found
@@ -63,7 +66,7 @@ empty_script header = record {
 
 -- the draft of the first line alone
 abbrev pub empty_draft : Header → Draft
-empty_draft header = draft_of (empty_script header) 0 0 0
+empty_draft header = draft_of (empty_script header) 0 0 0 false
 
 -- the draft with one command more, that of line n
 abbrev pub command_added : ℕ → Draft → Act → Draft
@@ -72,6 +75,7 @@ command_added n d act = record {
   blocks = blocks_behind d.blocks (request_of act);
   inside = inside_behind d.inside (request_of act);
   loads = loads_behind d.loads (request_of act);
+  has_url = d.has_url;
 }
 
 -- it names no query, or a declared one
@@ -93,6 +97,12 @@ may_come d request =
 -- the draft with one command more, if it may come
 abbrev pub with_command : ℕ → Draft → Act → Option Draft
 with_command n d act = guard (may_come d (request_of act)) (command_added n d act)
+
+-- the draft with this URL, where no line gave one, before the first command
+abbrev pub with_url : Draft → List ℕ → Option Draft
+with_url d url =
+    guard (is_setup d.script.commands && not d.has_url)
+    (record d { script = record d.script { url = url }; has_url = true })
 
 -- the draft with one line of the plan more
 abbrev pub plan_added : Draft → PlanLine → Draft

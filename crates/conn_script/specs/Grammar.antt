@@ -8,16 +8,16 @@ use Rattle.conn_model.specs.declared.cache.CacheSize.TheVariants.{Unbounded, Dis
 pub use Rattle.conn_script.specs.Options.{◌>>=◌, guard}
 use Rattle.conn_script.specs.Words.{split_at, pieces, is_statement}
 use Rattle.conn_script.specs.Spelling.{word_named}
+use Rattle.conn_script.specs.BlockForms.{block_named}
+use Rattle.conn_script.specs.Fields.{url_of}
 use Rattle.conn_script.specs.Headers.{header_of}
 use Rattle.conn_script.specs.Plans.{query_row_of, refused_attempt_of, refused_of, refused_row_of}
 use Rattle.conn_script.specs.Queries.{declared_of}
-use Rattle.conn_script.specs.Drafts.{Draft, empty_draft, with_command, with_query, with_refused, with_refused_attempt, with_refused_row, with_row, if_closable}
+use Rattle.conn_script.specs.Drafts.{Draft, empty_draft, with_command, with_query, with_refused, with_refused_attempt, with_refused_row, with_row, with_url, if_closable}
 use Rattle.conn_script.specs.declared.command.Word.{Word}
 use Rattle.conn_script.specs.declared.command.Word.TheVariants as words
 use Rattle.conn_script.specs.declared.command.Act.{Act}
 use Rattle.conn_script.specs.declared.command.Act.TheVariants as acts
-use Rattle.conn_script.specs.declared.command.BlockKind.{BlockKind}
-use Rattle.conn_script.specs.declared.command.BlockKind.TheVariants as kinds
 use Rattle.conn_script.specs.declared.command.QueryCall.{QueryCall}
 use Rattle.conn_script.specs.declared.command.QueryCall.TheVariants.{Exec, Load, Each, One, Optional}
 use Rattle.conn_script.specs.declared.command.Script.{Script}
@@ -44,12 +44,6 @@ abbrev pub size_named : List ℕ → Option CacheSize
 size_named bs =
     if bytes_eq bs (codes "unbounded") then Some Unbounded else
     if bytes_eq bs (codes "disabled") then Some Disabled else None
-
--- the block that is named so
-abbrev pub block_named : List ℕ → Option BlockKind
-block_named bs =
-    if bytes_eq bs (codes "plain") then Some kinds.Plain else
-    if bytes_eq bs (codes "test") then Some kinds.Test else None
 
 -- what a command asks for, by its word and what follows it behind a space
 abbrev pub act_from : Word → Option (List ℕ) → Option Act
@@ -89,7 +83,11 @@ act_of first rest = do
   word ← word_named first
   act_from word rest
 
--- the draft with the item that a line refuses, by what follows its word
+-- the draft with the URL that a line gives, by what follows its word
+abbrev pub with_given_url : Draft → Option (List ℕ) → Option Draft
+with_given_url d rest = url_of rest >>= with_url d
+
+-- the draft with the item that a line refuses, likewise
 abbrev pub with_item_refusal : Draft → Option (List ℕ) → Option Draft
 with_item_refusal d rest = refused_of d.script.dialect rest >>= with_refused d
 
@@ -123,6 +121,7 @@ with_query_words n d first rest =
 -- a space
 abbrev pub with_words : ℕ → Draft → List ℕ × Option (List ℕ) → Option Draft
 with_words n d line =
+    if bytes_eq line.0 (codes "url") then with_given_url d line.1 else
     if bytes_eq line.0 (codes "refuse") then with_item_refusal d line.1 else
     if bytes_eq line.0 (codes "refuserow") then with_row_refusal d line.1 else
     if bytes_eq line.0 (codes "noconnect") then with_attempt_refusal d line.1 else

@@ -3,6 +3,9 @@
 use Rattle.std.specs.Prelude.{ℕ, ◌+◌, ◌-◌, ◌==◌, ◌&&◌, ◌||◌, not, Bool, true, false, nat_lt, if◌then◌else◌}
 use Rattle.conn_model.specs.declared.item.Dialect.{Dialect}
 use Rattle.conn_model.specs.declared.item.Dialect.TheVariants.{Pg}
+use Rattle.conn_model.specs.Beginnings.{form_dialect}
+use Rattle.conn_model.specs.Dialects.{is_dialect}
+use Rattle.conn_script.specs.declared.command.BlockKind.TheVariants.{Form}
 use Rattle.conn_script.specs.declared.command.QueryCall.TheVariants.{Load, Each, One, Optional}
 use Rattle.conn_script.specs.declared.request.Request.{Request}
 use Rattle.conn_script.specs.declared.request.Request.TheVariants.{On}
@@ -64,12 +67,9 @@ may_load loads request = not (loads_rows request) || nat_lt loads 65536
 abbrev pub loads_behind : ℕ → Request → ℕ
 loads_behind loads request = if loads_rows request then loads + 1 else loads
 
--- it is PostgreSQL's
-abbrev pub is_postgres : Dialect → Bool
-is_postgres Pg = true
-is_postgres _ = false
-
--- servers of this dialect can be asked it: PostgreSQL alone gives rows one by one
+-- servers of this dialect can be asked it: PostgreSQL alone gives rows one by one, and a text that
+-- begins a block is one dialect's
 abbrev pub fits_dialect : Dialect → Request → Bool
-fits_dialect dialect (On c (Query Each query)) = is_postgres dialect
+fits_dialect dialect (On c (Query Each query)) = is_dialect dialect Pg
+fits_dialect dialect (On c (Block (Form form))) = is_dialect dialect (form_dialect form)
 fits_dialect dialect _ = true

@@ -1,12 +1,13 @@
 //! What commands ask for.
 ghost use Rattle.std.specs.Prelude.{◌≡◌};
 ghost use Rattle.std.specs.Option.{option_copied};
-ghost use Rattle.conn_script.specs.Grammar.{act_from, act_of, block_named, connection_alone, query_call, size_named};
+ghost use Rattle.conn_script.specs.Grammar.{act_from, act_of, connection_alone, query_call, size_named};
 ghost use Rattle.conn_script.specs.Spelling.{word_named};
 
+use crate::blocks::block_of;
 use crate::statement::is_statement_text;
 use crate::words::cut_word;
-use crate::{Act, BlockKind, QueryCall, Word};
+use crate::{Act, QueryCall, Word};
 use conn_model::{CacheSize, LentText, number_u32};
 
 /// The word that is spelled so.
@@ -71,19 +72,6 @@ fn size_in<'a>(rest: Option<&'a str>) -> Option<Act<'a>>
     let connection = number_u32(connection)?;
     let size = size_of(size?)?;
     Some(Act::Cache(connection, size))
-}
-
-/// The block that is named so.
-fn block_of(text: &str) -> Option<BlockKind>
-    ensures { result ≡ block_named text.now }
-{
-    if text == "plain" {
-        return Some(BlockKind::Plain);
-    }
-    if text == "test" {
-        return Some(BlockKind::Test);
-    }
-    None
 }
 
 fn block_in<'a>(rest: Option<&'a str>) -> Option<Act<'a>>

@@ -2,7 +2,7 @@
 ghost use Rattle.std.specs.Prelude.{◌≡◌};
 
 use crate::Declareds;
-use conn_model::{CacheSize, Dialect, LentText, PlanLine, Text};
+use conn_model::{BlockForm, CacheSize, Dialect, LentText, PlanLine, Text};
 use sqlite_items::Items;
 
 /// The first word of a command.
@@ -77,11 +77,13 @@ impl Word {
     }
 }
 
-/// How a block ends: `Plain` keeps what it did where all went well, and `Test` never does.
+/// How a block begins and ends: a test never keeps what it did, and the others do where all went well.
 #[derive(Clone, Copy, Debug, PartialEq, Eq)]
 pub enum BlockKind {
     Plain,
     Test,
+    /// It begins by the text of this form.
+    Form(BlockForm),
 }
 
 /// What is made of a query.

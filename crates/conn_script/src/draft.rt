@@ -8,7 +8,7 @@ ghost use Rattle.conn_script.specs.Queries.{is_id, is_used, query_text};
 ghost use Rattle.conn_script.specs.Requests.{request_of};
 ghost use Rattle.conn_script.specs.RowCounts.{row_count_of};
 ghost use Rattle.conn_script.specs.Tables.{value_at};
-ghost use Rattle.conn_script.specs.Drafts.{can_close, default_url, empty_draft, empty_script, is_taken, knows, may_ask, with_command, with_query, with_refused, with_refused_attempt, with_refused_row, with_row};
+ghost use Rattle.conn_script.specs.Drafts.{can_close, default_url, empty_draft, empty_script, is_taken, knows, may_ask, with_command, with_query, with_refused, with_refused_attempt, with_refused_row, with_row, with_url};
 
 use crate::header::Header;
 use crate::openings::{
@@ -27,8 +27,8 @@ use std::alloc::{AllocError, Global};
 use std::collections::BTreeSet;
 use std::marker::Model;
 
-/// A script so far, seen as it stands with its open blocks and the number of its commands that ask
-/// for rows. Beside it are the items that its plan refuses and the runs of which it refuses a row,
+/// A script so far, seen as it stands with its open blocks, the number of its commands that ask for
+/// rows, and whether a line gave its URL. Beside it are the items that its plan refuses and the runs of which it refuses a row,
 /// each a server and the item's number, the attempts to connect that it refuses, the texts of its
 /// queries by their numbers, their ids, and the rows of each text, counted.
 #[derive(Drop)]
@@ -39,6 +39,8 @@ pub struct Draft<'a> {
     inside: u32,
     /// How many commands ask for rows.
     loads: u32,
+    /// Whether a line gave the URL.
+    has_url: bool,
     refused: BTreeSet<(u32, u64)>,
     refused_rows: BTreeSet<(u32, u64)>,
     refused_attempts: BTreeSet<u32>,
@@ -57,7 +59,7 @@ impl<'a> Model for Draft<'a> {
 
     ghost Value = { Draft };
 
-    ghost view = { λ d. draft_of d.script d.blocks d.inside d.loads };
+    ghost view = { λ d. draft_of d.script d.blocks d.inside d.loads d.has_url };
 
     ghost invariant = { λ d. AreKeys compare_items refused_key d.refused.keys d.script.plan
         × AreKeys compare_items refused_row_key d.refused_rows.keys d.script.plan
@@ -114,6 +116,7 @@ impl<'a> Draft<'a> {
             blocks: 0,
             inside: 0,
             loads: 0,
+            has_url: false,
             refused: BTreeSet::new(alloc),
             refused_rows: BTreeSet::new(alloc),
             refused_attempts: BTreeSet::new(alloc),
@@ -212,6 +215,20 @@ impl<'a> Draft<'a> {
         ensures { result ≡ is_setup self.now.script.commands }
     {
         self.script.commands.is_empty()
+    }
+
+    /// Puts a URL in the place of the dialect's own, and answers whether it may come here: no line
+    /// gave one, and no command stands before it.
+    pub fn add_url(&mut self, alloc: Global, url: &str) -> Result<bool, AllocError>
+        ensures added { IfOk result (λ good. guard good self.new ≡ with_url self.old url.now) }
+        ensures kept { OnErr result (self.new ≡ self.old) }
+    {
+        if self.has_url || !self.is_setup() {
+            return Ok(false);
+        }
+        self.script.url = Text::new(alloc, url)?;
+        self.has_url = true;
+        Ok(true)
     }
 
     /// Adds an item that is refused, and answers whether it may come here: no other line refuses
@@ -359,6 +376,7 @@ impl<'a> Draft<'a> {
             blocks: _,
             inside: _,
             loads: _,
+            has_url: _,
             refused: _,
             refused_rows: _,
             refused_attempts: _,

@@ -3,6 +3,7 @@
 
 mod acts;
 mod binds;
+mod blocks;
 mod command;
 mod draft;
 mod fields;

@@ -5,7 +5,7 @@ ghost use Rattle.conn_script.specs.Openings.{blocks_behind, bounds_block, closes
 ghost use Rattle.conn_script.specs.Requests.{request_of};
 
 use crate::request::{Request, Verb};
-use crate::{Act, QueryCall};
+use crate::{Act, BlockKind, QueryCall};
 use conn_model::Dialect;
 
 /// The commands that a script has at most.
@@ -109,30 +109,8 @@ pub fn fits_dialect(dialect: Dialect, act: &Act) -> bool
     ensures { result ≡ fits_dialect dialect (request_of act.now) }
 {
     match act {
-        Act::Query(QueryCall::Each, _, _) => matches!(dialect, Dialect::Pg),
+        Act::Query(QueryCall::Each, _, _) => dialect == Dialect::Pg,
+        Act::Block(_, BlockKind::Form(form)) => dialect == form.dialect(),
         _ => true,
-    }
-}
-
-#[cfg(test)]
-mod tests {
-    use super::*;
-
-    /// Commands, open blocks, and whether these can be closed behind them.
-    const ROOMS: [(usize, u32, bool); 7] = [
-        (0, 64, true),
-        (1_048_576, 0, true),
-        (1_048_577, 0, false),
-        (1_048_575, 1, true),
-        (1_048_576, 1, false),
-        (1_048_512, 64, true),
-        (1_048_513, 64, false),
-    ];
-
-    #[test]
-    fn lines_that_are_due_have_their_room(rt: HostRuntime) {
-        for (commands, blocks, room) in ROOMS {
-            assert!(rt; can_end(commands, blocks, 4_294_967_295) == room);
-        }
     }
 }

@@ -10,15 +10,17 @@ use Rattle.conn_model.specs.declared.item.Dialect.{Dialect}
 use Rattle.conn_model.specs.declared.item.Refusal.{Refusal}
 use Rattle.conn_manager.specs.Manages.{Done, done, Reply as Answer, HasServerCause, lowered, lowered_in, unrolled, unrolled_in, rolled_back, rollback_in, rollback_process}
 use Rattle.conn_manager.specs.Statuses.{Status, no_depth, reply_of}
-use Rattle.conn_manager.specs.Transactions.{is_broken_error}
+use Rattle.conn_manager.specs.Transactions.{includes}
 use Rattle.conn_manager.specs.Views.{View, ActsOrMemoryFrom}
+use Rattle.conn_manager.specs.declared.rollback_errors.RollbackErrors.{RollbackErrors}
+use Rattle.conn_manager.specs.declared.rollback_errors.RollbackErrors.TheVariants.{All, AllButBroken}
 use Rattle.conn_manager.specs.declared.status.InTransactionStatus.{InTransactionStatus}
 use Rattle.conn_manager.specs.declared.status.TransactionManagerStatus.TheVariants.{Valid, InError}
-use Rattle.conn_reading.specs.Asking.{rollback_answer, with_answer, close_process, reply_as}
+use Rattle.conn_reading.specs.Asking.{rollback_answer, with_answer, close_process, keep_process, reply_as}
 use Rattle.conn_reading.specs.declared.deed.Deed.TheVariants.{Close}
 use Rattle.conn_report.specs.declared.entry.Reply.TheVariants as replies
 use Rattle.conn_script.specs.declared.command.BlockKind.{BlockKind}
-use Rattle.conn_script.specs.declared.command.BlockKind.TheVariants.{Plain, Test}
+use Rattle.conn_script.specs.declared.command.BlockKind.TheVariants.{Test}
 use Rattle.conn_session.specs.Responses.{CountsRefusal, IsRefused, wants_memory}
 use Rattle.conn_session.proofs.Responses.{counted_by}
 
@@ -76,11 +78,15 @@ memory_only _ e = absurd (cc)
 
 -- ---- a block that got an error
 
+memory_told : (errors : RollbackErrors) (e : Error) → rollback_answer errors e (Err OutOfMemory) ≡ Err OutOfMemory
+memory_told All e = refl
+memory_told AllButBroken e = refl
+
 module _ (honest : Bool) (old new : View) (r : Answer) (acts : ActsOrMemoryFrom honest rollback_process old new r) where
-  pub error_closes : (e : Error) (answer : Answer) → answer ≡ rollback_answer e r → ActsOrMemoryFrom honest (close_process Plain (Err e)) old new answer
-  error_closes e answer is = elim acts [
-    | inl h ↦ inl (is ∙ ap (rollback_answer e) h.0, h.1)
-    | inr a ↦ inr (subst (λ (x : Answer). Acts honest (close_process Plain (Err e) old.seen.dialect old.status) old.seen new.seen (done x new.status)) (sym is) (acts_map (with_answer (rollback_answer e)) honest (rollback_process old.seen.dialect old.status) old.seen new.seen (done r new.status) a))
+  pub error_closes : (errors : RollbackErrors) (e : Error) (answer : Answer) → answer ≡ rollback_answer errors e r → ActsOrMemoryFrom honest (keep_process errors (Err e)) old new answer
+  error_closes errors e answer is = elim acts [
+    | inl h ↦ inl (is ∙ ap (rollback_answer errors e) h.0 ∙ memory_told errors e, h.1)
+    | inr a ↦ inr (subst (λ (x : Answer). Acts honest (keep_process errors (Err e) old.seen.dialect old.status) old.seen new.seen (done x new.status)) (sym is) (acts_map (with_answer (rollback_answer errors e)) honest (rollback_process old.seen.dialect old.status) old.seen new.seen (done r new.status) a))
   ]
 
   -- ---- a test's block
@@ -109,16 +115,16 @@ module _ (honest : Bool) (old new : View) (r : Answer) (acts : ActsOrMemoryFrom 
 blocks_error : (kind : BlockKind) (old new : Seen) (e : Error) (r : Answer) → HasServerCause old new r → CountsRefusal (Close kind (Err e)) old new (replies.Error e)
 blocks_error kind old new e r cause = record { later = cause.later; refused = λ h. inr refl }
 
-pub error_counted : (kind : BlockKind) (old new : Seen) (e : Error) (r answer : Answer) → answer ≡ rollback_answer e r → HasServerCause old new r → CountsRefusal (Close kind (Err e)) old new (reply_as answer)
-error_counted kind old new e r answer is cause = subst (λ (a : Answer). CountsRefusal (Close kind (Err e)) old new (reply_as a)) (sym is) (by_answer r cause)
+pub error_counted : (kind : BlockKind) (old new : Seen) (errors : RollbackErrors) (e : Error) (r answer : Answer) → answer ≡ rollback_answer errors e r → HasServerCause old new r → CountsRefusal (Close kind (Err e)) old new (reply_as answer)
+error_counted kind old new errors e r answer is cause = subst (λ (a : Answer). CountsRefusal (Close kind (Err e)) old new (reply_as a)) (sym is) (by_answer r cause)
   where
-    by_answer : (r : Answer) → HasServerCause old new r → CountsRefusal (Close kind (Err e)) old new (reply_as (rollback_answer e r))
+    by_answer : (r : Answer) → HasServerCause old new r → CountsRefusal (Close kind (Err e)) old new (reply_as (rollback_answer errors e r))
     by_answer (Ok u) c = blocks_error kind old new e (Ok u) c
-    by_answer (Err x) c = by_test (is_broken_error x)
+    by_answer (Err x) c = by_test (includes errors x)
       where
-        by_test : (b : Bool) → CountsRefusal (Close kind (Err e)) old new (reply_as (if b then Err e else Err x))
-        by_test true = blocks_error kind old new e (Err x) c
-        by_test false = counted_by (Close kind (Err e)) old new (Err x) c
+        by_test : (b : Bool) → CountsRefusal (Close kind (Err e)) old new (reply_as (if b then Err x else Err e))
+        by_test false = blocks_error kind old new e (Err x) c
+        by_test true = counted_by (Close kind (Err e)) old new (Err x) c
 
 pub test_counted : (old new : Seen) (answer : Answer) → old.failures ≤ new.failures → CountsRefusal (Close Test answer) old new (reply_as answer)
 test_counted old new (Ok u) later = record { later = later; refused = λ h. absurd h }

@@ -3,7 +3,6 @@ use Rattle.std.proofs.Common.{◌≡◌, ℕ, ◌<◌, ◌≤◌, Bool, true, fa
 use Rattle.std.specs.Prelude.{slice_set}
 use Rattle.std.specs.Option.{option_map}
 use Rattle.std.proofs.lemmas.List.{length-map}
-use Rattle.conn_manager.specs.Statuses.{is_broken}
 use Rattle.conn_manager.specs.Views.{View}
 use Rattle.conn_pool.specs.Checkouts.{ChecksIn}
 use Rattle.conn_pool.specs.Managers.{ClosesManaged, Managed}

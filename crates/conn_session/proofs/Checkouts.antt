@@ -1,5 +1,5 @@
 -- What the pool's core answers is what a session's slot is served by.
-use Rattle.std.proofs.Common.{◌≡◌, ◌≢◌, ℕ, zero, suc, ◌<◌, Bool, true, false, ◌&&◌, if◌then◌else◌, List, [], ◌∷◌, ◌++◌, length, Option, Some, None, Result, Ok, Err, refl, sym, ap, subst, ◌∙◌, arith, inl, inr}
+use Rattle.std.proofs.Common.{◌≡◌, ℕ, zero, suc, ◌<◌, Bool, true, false, if◌then◌else◌, List, [], ◌∷◌, ◌++◌, length, Option, Some, None, Result, Ok, Err, refl, sym, ap, subst, ◌∙◌, arith, inl, inr}
 use Rattle.std.specs.Prelude.{nat_lt, slice_get, slice_set}
 use Rattle.std.specs.Option.{option_map}
 use Rattle.std.proofs.lemmas.Bool.Decides.{nat_tests}
@@ -10,12 +10,11 @@ use Rattle.conn_result.specs.declared.pool.Error.{Error as PoolError}
 use Rattle.conn_result.specs.declared.pool.Error.TheVariants as pooling
 use Rattle.conn_result.specs.declared.pool.PoolError.{PoolError as PoolRefusal}
 use Rattle.conn_result.specs.declared.pool.PoolError.TheVariants as refusals
-use Rattle.conn_result.specs.PoolErrors.{query_error}
 use Rattle.conn_manager.specs.Manages.{Reply as Answer}
 use Rattle.conn_manager.specs.Statuses.{is_broken}
 use Rattle.conn_manager.specs.Views.{View}
 use Rattle.conn_pool.specs.Checkouts.{ChecksOut, Customizes, Fills, Inspects, Judges, Reuses, Serves, TriesGet, seen_answer}
-use Rattle.conn_pool.specs.Managers.{ChecksManaged, ClosesManaged, FailsManaged, KeepsSettings, Managed, OpensManaged, managed}
+use Rattle.conn_pool.specs.Managers.{ChecksManaged, ClosesManaged, FailsManaged, KeepsSettings, Managed, OpensManaged}
 use Rattle.conn_pool.specs.SlotViews.{PoolView, SlotView, empty_slot, with_slots}
 use Rattle.conn_pool.specs.declared.pooled.PooledConnection.{PooledConnection}
 use Rattle.conn_reading.specs.Asking.{Policy, check_deed}
@@ -32,10 +31,10 @@ use Rattle.conn_session.specs.Customizing.{AcquiresAs, AnswersDeed, AnswersIf}
 use Rattle.conn_session.specs.Responses.{ShowsUnserved, seat_of}
 use Rattle.conn_session.specs.Steps.{Steps}
 use Rattle.conn_session.specs.Transfers.{in_front}
-use Rattle.conn_session.specs.Worlds.{Pool, World, Invariant, filled_to, kept_views, views_of}
+use Rattle.conn_session.specs.Worlds.{World, Invariant, filled_to, kept_views, views_of}
 use Rattle.conn_session.proofs.Gets.{get_none}
 use Rattle.conn_session.proofs.Numbers.{at_number-map}
-use Rattle.conn_session.proofs.Pooled.{AsksKept, Ends, MakesNew, MakesNone, ServesAt, ShowsServed, end_of, served_world, set_at, slot_step, vacant}
+use Rattle.conn_session.proofs.Pooled.{Ends, ServesAt, ShowsServed, end_of, served_world, set_at, slot_step, vacant}
 use Rattle.conn_session.proofs.Responses.{counted_by, ping_asked}
 use Rattle.conn_session.proofs.Shown.{kept-last, views-filled, views-set}
 

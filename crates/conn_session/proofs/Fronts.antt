@@ -1,23 +1,20 @@
 -- The connection that `get` has in hand, as if in the front slot: it is asked, handed out or closed.
-use Rattle.std.proofs.Common.{◌≡◌, ◌≢◌, ℕ, ◌+◌, ◌<◌, ◌≤◌, Bool, true, false, List, [], ◌∷◌, ◌++◌, length, Option, Some, None, refl, sym, ap, subst, ◌∙◌, arith, Ok, Err, inl, inr, length-append, append-nil}
-use Rattle.std.specs.Prelude.{slice_set, sum_by}
-use Rattle.std.specs.Option.{option_and_then, option_map}
+use Rattle.std.proofs.Common.{◌≡◌, ◌≢◌, ℕ, ◌+◌, ◌<◌, ◌≤◌, Bool, true, false, List, [], ◌++◌, length, Option, Some, None, refl, sym, ap, subst, ◌∙◌, arith, Ok, Err, inl, inr, length-append, append-nil}
 use Rattle.conn_result.specs.declared.error.Error.{Error}
 use Rattle.conn_result.specs.declared.error.Error.TheVariants.{OutOfMemory}
 use Rattle.conn_result.specs.declared.pool.Error.{Error as PoolError}
-use Rattle.conn_model.specs.Acts.{Acts, IsSameServer}
+use Rattle.conn_model.specs.Acts.{Acts}
 use Rattle.conn_model.specs.Armed.{Armed, armed_of}
-use Rattle.conn_model.specs.Seen.{Seen, IsHonest}
+use Rattle.conn_model.specs.Seen.{IsHonest}
 use Rattle.conn_model.specs.States.{State, state_of}
 use Rattle.conn_model.specs.declared.item.Dialect.{Dialect}
 use Rattle.conn_model.specs.declared.item.Item.{Item}
 use Rattle.conn_model.specs.declared.plan.Order.{Order}
 use Rattle.conn_manager.specs.Manages.{IsRefusal, Reply as Answer}
 use Rattle.conn_manager.specs.Views.{View}
-use Rattle.conn_reading.specs.Answered.{ServerLogs, Progress, Taken, readied, refusal_of}
+use Rattle.conn_reading.specs.Answered.{ServerLogs, get_refusal}
 use Rattle.conn_reading.specs.Asking.{outcome, process_of, reply_as}
 use Rattle.conn_reading.specs.Reading.{BeginsAnew, ReadsItems}
-use Rattle.conn_reading.specs.Seats.{Seat, Context}
 use Rattle.conn_reading.specs.declared.deed.Deed.{Deed}
 use Rattle.conn_reading.specs.declared.deed.Deed.TheVariants.{Close}
 use Rattle.conn_script.specs.declared.command.BlockKind.{BlockKind}
@@ -32,14 +29,12 @@ use Rattle.conn_session.specs.Customizing.{AnswersDeed, AnswersIf}
 use Rattle.conn_session.specs.Known.{Has, IsKnown, progress, with_more}
 use Rattle.conn_session.specs.Plays.{AnswersReady}
 use Rattle.conn_session.specs.Responses.{IsAnswer, IsBlocks, IsDone, answer_reply, done_answer, seat_of, state_told}
-use Rattle.conn_session.specs.Steps.{IsLater, KeepsAll}
+use Rattle.conn_session.specs.Steps.{KeepsAll}
 use Rattle.conn_session.specs.Transfers.{gives_slot, in_front, puts_out}
-use Rattle.conn_session.specs.Worlds.{World, Invariant, part, refusals, seats_of}
-use Rattle.conn_session.proofs.Counts.{later-refl}
+use Rattle.conn_session.specs.Worlds.{World, Invariant, refusals}
 use Rattle.conn_session.proofs.Growing.{known_front, known_same}
 use Rattle.conn_session.proofs.Honest.{state_of_log, sent_of_log}
 use Rattle.conn_session.proofs.Moving.{asked_front, closed_front, front_vacant, front_within, handed_out}
-use Rattle.conn_session.proofs.Runs.{keeps-refl}
 use Rattle.conn_session.proofs.Totals
 
 -- ---- what each move keeps
@@ -106,7 +101,7 @@ module _ (tells : Bool) (line : ℕ) (fresh : Bool) (w : World) (v u : View) (ho
   has : Has w.pool.dialect w.connector.armed logs v.seen
   has = known.servers.slots.0
 
-  deed_reads : (deed : Deed) (reply : Reply) → Acts tells (process_of v.seen.dialect w.pool.queries v.status v.cache deed) v.seen u.seen (outcome reply u.status u.cache) → IsHonest u.seen → ReadsFront logs w line fresh (Some deed) v u (refusal_of fresh (seat_of u) reply)
+  deed_reads : (deed : Deed) (reply : Reply) → Acts tells (process_of v.seen.dialect w.pool.queries v.status v.cache deed) v.seen u.seen (outcome reply u.status u.cache) → IsHonest u.seen → ReadsFront logs w line fresh (Some deed) v u (get_refusal fresh (seat_of u) reply)
   deed_reads deed reply acts after_honest =
       let r : HasRead false v.seen.dialect v.seen.armed (state_told v.seen) (process_of v.seen.dialect w.pool.queries v.status v.cache deed) (outcome reply u.status u.cache) (logs m) u.seen.log =
       reads_acts (process_of v.seen.dialect w.pool.queries v.status v.cache deed) v.seen u.seen (outcome reply u.status u.cache) (logs m) (state_told v.seen) (command_looks v.seen.dialect w.pool.queries v.status v.cache deed) has.log_is (state_of_log v.seen (logs m) has.honest has.log_is)
@@ -136,9 +131,9 @@ module _ (tells : Bool) (line : ℕ) (fresh : Bool) (w : World) (v u : View) (ho
   nothing_more : (n : ℕ) → with_more logs (only m []) n ≡ logs n
   nothing_more n = ap (λ (l : List Item). logs n ++ l) (only_none m n) ∙ append-nil (logs n)
 
-  none_reads : u ≡ v → ReadsFront logs w line fresh None v u (refusal_of fresh (seat_of u) replies.Ok)
+  none_reads : u ≡ v → ReadsFront logs w line fresh None v u (get_refusal fresh (seat_of u) replies.Ok)
   none_reads same =
-      subst (λ (x : View). ReadsFront logs w line fresh None v x (refusal_of fresh (seat_of x) replies.Ok)) (sym same) (record {
+      subst (λ (x : View). ReadsFront logs w line fresh None v x (get_refusal fresh (seat_of x) replies.Ok)) (sym same) (record {
         items = [];
         anew = tt;
         known = known_same logs (with_more logs (only m [])) (in_front (Some v) w) nothing_more known;
@@ -146,12 +141,12 @@ module _ (tells : Bool) (line : ℕ) (fresh : Bool) (w : World) (v u : View) (ho
       })
 
   -- what is asked of it, or nothing
-  pub if_reads : (deed : Option Deed) (answer : Answer) → AnswersIf tells deed v u answer → answer ≢ Err OutOfMemory → ReadsFront logs w line fresh deed v u (refusal_of fresh (seat_of u) (reply_as answer))
+  pub if_reads : (deed : Option Deed) (answer : Answer) → AnswersIf tells deed v u answer → answer ≢ Err OutOfMemory → ReadsFront logs w line fresh deed v u (get_refusal fresh (seat_of u) (reply_as answer))
   if_reads None answer a memory =
-      subst (λ (r : Reply). ReadsFront logs w line fresh None v u (refusal_of fresh (seat_of u) r)) (sym (ap reply_as a.1)) (none_reads a.0)
+      subst (λ (r : Reply). ReadsFront logs w line fresh None v u (get_refusal fresh (seat_of u) r)) (sym (ap reply_as a.1)) (none_reads a.0)
   if_reads (Some deed) answer a memory =
       let done : IsDone tells w.pool.queries deed v u (done_answer answer) = deed_done tells deed v u answer w a memory in
-      subst (λ (r : Reply). ReadsFront logs w line fresh (Some deed) v u (refusal_of fresh (seat_of u) r)) (reply_is answer) (deed_reads deed (answer_reply (done_answer answer)) done.acts (a.honest_after honest))
+      subst (λ (r : Reply). ReadsFront logs w line fresh (Some deed) v u (get_refusal fresh (seat_of u) r)) (reply_is answer) (deed_reads deed (answer_reply (done_answer answer)) done.acts (a.honest_after honest))
 
 -- ---- whatever its server is
 

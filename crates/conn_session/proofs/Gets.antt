@@ -1,10 +1,10 @@
 -- `get` where no slot is free, and where the front one has a connection.
-use Rattle.std.proofs.Common.{◌≡◌, ◌≢◌, ℕ, ◌<◌, Bool, true, false, List, [], ◌∷◌, Option, Some, None, refl, sym, ap, subst, ◌∙◌, Ok, Err}
+use Rattle.std.proofs.Common.{◌≡◌, ◌≢◌, ℕ, ◌<◌, Bool, true, false, List, [], Option, Some, None, refl, sym, ap, subst, ◌∙◌, Ok, Err}
 use Rattle.conn_result.specs.declared.error.Error.TheVariants.{OutOfMemory}
 use Rattle.conn_result.specs.declared.pool.Error.{Error as PoolError}
 use Rattle.conn_manager.specs.Manages.{Reply as Answer}
 use Rattle.conn_manager.specs.Views.{View}
-use Rattle.conn_reading.specs.Answered.{taken, reads_get, reads, refusal_of}
+use Rattle.conn_reading.specs.Answered.{taken, reads_get, reads, get_refusal}
 use Rattle.conn_reading.specs.Asking.{check_deed, reply_as}
 use Rattle.conn_reading.specs.Seats.{Seat, entry_without}
 use Rattle.conn_reading.specs.declared.deed.Deed.{Deed}
@@ -48,18 +48,18 @@ module _ (honest tells : Bool) (honest_tells : honest ≡ true → tells ≡ tru
   deed = check_deed w.pool.policy.check
 
   abbrev refusal : Option PoolError
-  refusal = refusal_of false (seat_of u) (reply_as answer)
+  refusal = get_refusal false (seat_of u) (reply_as answer)
 
   -- a check closes no block
   checks_apart : (check : Bool) (kind : BlockKind) (x : Answer) → check_deed check ≡ Some (Close kind x) → ⊥
   checks_apart true kind x e = absurd (cc)
   checks_apart false kind x e = absurd (cc)
 
-  refused : (x : Answer) → AnswersIf tells deed v u x → IsServersIf (refusal_of false (seat_of u) (reply_as x)) → 0 < u.seen.failures
+  refused : (x : Answer) → AnswersIf tells deed v u x → IsServersIf (get_refusal false (seat_of u) (reply_as x)) → 0 < u.seen.failures
   refused (Ok t) b h = absurd h
   refused (Err e) b h = if_refused tells deed v u e b h (checks_apart w.pool.policy.check)
 
-  not_connectors : (x : Answer) → IsConnectorsIf (refusal_of false (seat_of u) (reply_as x)) → ⊥
+  not_connectors : (x : Answer) → IsConnectorsIf (get_refusal false (seat_of u) (reply_as x)) → ⊥
   not_connectors (Ok t) h = h
   not_connectors (Err e) h = h
 

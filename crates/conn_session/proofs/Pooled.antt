@@ -1,5 +1,5 @@
 -- What a check-out of the pool's core is to a session: `get`.
-use Rattle.std.proofs.Common.{◌≡◌, ◌≢◌, ℕ, ◌+◌, ◌<◌, Bool, true, false, ◌&&◌, if◌then◌else◌, List, length, Option, Some, None, Result, Ok, Err, refl, sym, ap, subst, ◌∙◌, arith, inl, inr}
+use Rattle.std.proofs.Common.{◌≡◌, ◌≢◌, ℕ, ◌<◌, Bool, true, false, ◌&&◌, if◌then◌else◌, List, length, Option, Some, None, Result, Ok, Err, refl, sym, ap, subst, ◌∙◌, arith, inl, inr}
 use Rattle.std.specs.Prelude.{◌⊎◌, IsErr}
 use Rattle.std.specs.declared.alloc.AllocError.{AllocError}
 use Rattle.conn_result.specs.declared.error.ConnectionError.{ConnectionError}
@@ -12,7 +12,7 @@ use Rattle.conn_manager.specs.Manages.{Reply as Answer}
 use Rattle.conn_manager.specs.Statuses.{is_broken}
 use Rattle.conn_manager.specs.Views.{View}
 use Rattle.conn_pool.specs.Managers.{FailsManaged, Managed, OpensManaged, managed}
-use Rattle.conn_reading.specs.Answered.{refusal_of}
+use Rattle.conn_reading.specs.Answered.{get_refusal}
 use Rattle.conn_reading.specs.Asking.{check_deed, customizer_deed, reply_as}
 use Rattle.conn_reading.specs.Seats.{at_number, entry_on, make_entry}
 use Rattle.conn_reading.specs.declared.deed.Deed.{Deed}
@@ -104,7 +104,7 @@ abbrev ended : World → Connected → Result View PoolError → World
 ended w c (Ok x) = record { pool = puts_out x.seen.number (Some x) w.pool; connector = c }
 ended w c (Err e) = record { pool = gives_slot None w.pool; connector = c }
 
-module _ (honest : Bool) (line : ℕ) (fresh : Bool) (a w : World) (k : Connected) (u : View) (reply : Answer) (keeps : KeepsAll a (in_front (Some u) w)) (ready : reply ≢ Err OutOfMemory → Readies honest line a w u (refusal_of fresh (seat_of u) (reply_as reply))) where
+module _ (honest : Bool) (line : ℕ) (fresh : Bool) (a w : World) (k : Connected) (u : View) (reply : Answer) (keeps : KeepsAll a (in_front (Some u) w)) (ready : reply ≢ Err OutOfMemory → Readies honest line a w u (get_refusal fresh (seat_of u) (reply_as reply))) where
   abbrev closed : Connected
   closed = takes_back u.seen w.connector
 
@@ -127,15 +127,15 @@ module _ (honest : Bool) (line : ℕ) (fresh : Bool) (a w : World) (k : Connecte
         (λ shows. subst (λ (c : Connected). Steps honest line Get a (ended w c (Err pooling.OutOfMemory)) result) (sym ends.1) (lacks result shows))
     | inr other ↦ subst (λ (x : Result View PoolError). To x result) (sym (ends.0 ∙ ap (λ (x : PoolError). Err x) other.0))
         (λ shows. (let r : Readies honest line a w u (Some (pooling.QueryError e u.seen.number)) =
-        subst (λ (x : Answer). Readies honest line a w u (refusal_of fresh (seat_of u) (reply_as x))) is (ready (subst (λ (x : Answer). x ≢ Err OutOfMemory) (sym is) (error_is e other.1))) in
+        subst (λ (x : Answer). Readies honest line a w u (get_refusal fresh (seat_of u) (reply_as x))) is (ready (subst (λ (x : Answer). x ≢ Err OutOfMemory) (sym is) (error_is e other.1))) in
         subst (λ (c : Connected). Steps honest line Get a (ended w c (Err (pooling.QueryError e u.seen.number))) result) (sym ends.1)
         (shut (pooling.QueryError e u.seen.number) result r (shows ∙ ap (λ (c : Connected). Ok (unserved_entry line (pooling.QueryError e u.seen.number) c.returned)) ends.1))))
   ]
 
   readied_as : (b : Bool) → (fresh && is_broken u.status) ≡ b → reply ≡ Ok tt → Readies honest line a w u (if b then Some (pooling.LeftOpen u.seen.number) else None)
   readied_as b broken is =
-      let r : Readies honest line a w u (refusal_of fresh (seat_of u) replies.Ok) =
-      subst (λ (x : Answer). Readies honest line a w u (refusal_of fresh (seat_of u) (reply_as x))) is (ready (subst (λ (x : Answer). x ≢ Err OutOfMemory) (sym is) (λ e. absurd (cc)))) in
+      let r : Readies honest line a w u (get_refusal fresh (seat_of u) replies.Ok) =
+      subst (λ (x : Answer). Readies honest line a w u (get_refusal fresh (seat_of u) (reply_as x))) is (ready (subst (λ (x : Answer). x ≢ Err OutOfMemory) (sym is) (λ e. absurd (cc)))) in
       subst (λ (x : Bool). Readies honest line a w u (if x then Some (pooling.LeftOpen u.seen.number) else None)) broken r
 
   -- it answered, and may have left a transaction open

@@ -10,9 +10,9 @@ use Rattle.conn_model.specs.Armed.{Values}
 use Rattle.conn_model.specs.Caches.{Known}
 use Rattle.conn_model.specs.Nuls.{nul_place, nul_fault}
 use Rattle.conn_model.specs.Process.{Process, Stop, Sent, Follows, map_process}
-use Rattle.conn_model.proofs.Goes.{stays, stops}
+use Rattle.conn_model.proofs.Goes.{stays}
 use Rattle.conn_model.proofs.NulFree.{fault_place}
-use Rattle.conn_model.specs.Seen.{Seen, Opened}
+use Rattle.conn_model.specs.Seen.{Seen}
 use Rattle.conn_model.specs.declared.cache.CacheSize.{CacheSize}
 use Rattle.conn_model.specs.declared.item.Dialect.{Dialect}
 use Rattle.conn_model.specs.declared.item.Refusal.{Refusal}

@@ -1,14 +1,13 @@
 -- `get` has a connection in hand, which was asked what is asked, and hands it out or closes it.
-use Rattle.std.proofs.Common.{◌≡◌, ℕ, ◌+◌, ◌<◌, Bool, true, List, [], ◌∷◌, ◌++◌, length, Option, Some, None, refl, sym, ap, subst, ◌∙◌, arith, inl, inr, Ok}
-use Rattle.std.specs.Prelude.{slice_set, sum_by}
+use Rattle.std.proofs.Common.{◌≡◌, ℕ, ◌<◌, Bool, true, List, [], ◌∷◌, ◌++◌, length, Option, Some, None, refl, sym, ap, subst, ◌∙◌, arith, inl, inr, Ok}
+use Rattle.std.specs.Prelude.{sum_by}
 use Rattle.std.specs.Option.{option_and_then, option_map}
 use Rattle.std.proofs.lemmas.Bool.{cases_lt}
 use Rattle.std.proofs.lemmas.List.Sums.{sum_by-cons}
 use Rattle.conn_result.specs.declared.pool.Error.{Error as PoolError}
 use Rattle.conn_model.specs.Seen.{Seen}
-use Rattle.conn_model.specs.declared.item.Item.{Item}
 use Rattle.conn_manager.specs.Views.{View}
-use Rattle.conn_reading.specs.Answered.{ServerLogs, Progress, closed_entry, readied, reads}
+use Rattle.conn_reading.specs.Answered.{ServerLogs, closed_entry, readied, reads}
 use Rattle.conn_reading.specs.Readings.{ReadsEntry}
 use Rattle.conn_reading.specs.Seats.{Seat, Context, entry_on, make_entry}
 use Rattle.conn_report.specs.declared.entry.Entry.{Entry}
@@ -21,10 +20,10 @@ use Rattle.conn_session.specs.Plays.{PlaysGet, ready_context, ready_entry}
 use Rattle.conn_session.specs.Responses.{IsConnectors, IsRefused, IsServers, IsUnopened, seat_of}
 use Rattle.conn_session.specs.Steps.{KeepsAll, Steps, fault_of}
 use Rattle.conn_session.specs.Transfers.{gives_slot, in_front, puts_out}
-use Rattle.conn_session.specs.Worlds.{World, Invariant, context_of, of_number, refusals, seats_of}
+use Rattle.conn_session.specs.Worlds.{World, Invariant, context_of, of_number, refusals}
 use Rattle.conn_session.proofs.Counts.{blocks_later, no_cause}
 use Rattle.conn_session.proofs.Fronts.{closed_keeps, handed_keeps}
-use Rattle.conn_session.proofs.Growing.{everywhere-closed, everywhere-handed_out, known_same}
+use Rattle.conn_session.proofs.Growing.{everywhere-closed, everywhere-handed_out}
 use Rattle.conn_session.proofs.Honest.{sent_of_log}
 use Rattle.conn_session.proofs.Runs.{keeps-trans}
 use Rattle.conn_session.proofs.Shown.{context-puts_out, seats-last}

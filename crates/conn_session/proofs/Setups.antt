@@ -30,7 +30,7 @@ use Rattle.conn_manager.specs.Manages.{Done, done, Reply}
 use Rattle.conn_manager.specs.Setups.{setup_texts, run_text, run_ready, execute_text, execute_texts, unless_refused, setup_process}
 use Rattle.conn_manager.specs.Statuses.{Status, is_broken, no_depth, retold, reply_of}
 use Rattle.conn_manager.specs.Views.{View}
-use Rattle.conn_reading.specs.Answered.{ServerLogs, Progress, Taken, taken, readied, reads_opened, reads_opening, reads_attempt, reads, refusal_of, with_opened}
+use Rattle.conn_reading.specs.Answered.{ServerLogs, Progress, Taken, taken, readied, reads_opened, reads_opening, reads_attempt, reads, get_refusal, with_opened}
 use Rattle.conn_reading.specs.Asking.{customizer_deed, reply_as}
 use Rattle.conn_reading.specs.Reading.{ReadsItems}
 use Rattle.conn_reading.specs.Readings.{ReadsEntry}
@@ -409,7 +409,7 @@ module _ (honest tells : Bool) (honest_tells : honest ≡ true → tells ≡ tru
   with_server = opened_now honest tells honest_tells line w holds left s.first s.opened
 
   abbrev refusal : Option PoolError
-  refusal = refusal_of true (seat_of u) (reply_as answer)
+  refusal = get_refusal true (seat_of u) (reply_as answer)
 
   abbrev same_number : v.seen.number ≡ s.first.number
   same_number = s.set_up.acts.same.number
@@ -430,7 +430,7 @@ module _ (honest tells : Bool) (honest_tells : honest ≡ true → tells ≡ tru
   left_not_refused true h = h
   left_not_refused false h = h
 
-  refused : (x : Reply) → AnswersIf tells deed v u x → IsServersIf (refusal_of true (seat_of u) (reply_as x)) → 0 < u.seen.failures
+  refused : (x : Reply) → AnswersIf tells deed v u x → IsServersIf (get_refusal true (seat_of u) (reply_as x)) → 0 < u.seen.failures
   refused (Ok t) b h = absurd (left_not_refused (is_broken u.status) h)
   refused (Err e) b h = if_refused tells deed v u e b h (customizes_apart w.pool.policy.customizer)
 
@@ -438,7 +438,7 @@ module _ (honest tells : Bool) (honest_tells : honest ≡ true → tells ≡ tru
   left_not_connectors true h = h
   left_not_connectors false h = h
 
-  not_connectors : (x : Reply) → IsConnectorsIf (refusal_of true (seat_of u) (reply_as x)) → ⊥
+  not_connectors : (x : Reply) → IsConnectorsIf (get_refusal true (seat_of u) (reply_as x)) → ⊥
   not_connectors (Ok t) h = left_not_connectors (is_broken u.status) h
   not_connectors (Err e) h = h
 

@@ -8,7 +8,7 @@ use Rattle.conn_result.specs.declared.error.Error.{Error}
 use Rattle.conn_manager.specs.Manages.{IsRefusal, Reply as Answer}
 use Rattle.conn_manager.specs.Views.{View}
 use Rattle.conn_reading.specs.Answered.{ServerLogs, Progress, Taken, taken, reads_on, reads_by_deed, reads_deed, skip_entry, with_blocks}
-use Rattle.conn_reading.specs.Blocks.{block_on, plain_deed, if_live, closing, deed_in, deed_of, opening_state, with_refusal, blocks_told, without_block, blocks_after}
+use Rattle.conn_reading.specs.Blocks.{block_on, opening, plain_deed, if_live, closing, deed_in, deed_of, opening_state, with_refusal, blocks_told, without_block, blocks_after}
 use Rattle.conn_reading.specs.Seats.{Seat, at_number}
 use Rattle.conn_reading.specs.declared.blocks.Block.{Block}
 use Rattle.conn_reading.specs.declared.blocks.BlockState.{BlockState}
@@ -17,6 +17,8 @@ use Rattle.conn_reading.specs.declared.deed.Deed.{Deed}
 use Rattle.conn_report.specs.declared.entry.Entry.{Entry}
 use Rattle.conn_report.specs.declared.entry.Reply.{Reply}
 use Rattle.conn_report.specs.declared.entry.Reply.TheVariants as replies
+use Rattle.conn_script.specs.declared.command.BlockKind.{BlockKind}
+use Rattle.conn_script.specs.declared.command.BlockKind.TheVariants.{Plain, Test, Form}
 use Rattle.conn_script.specs.Requests.{verb_word}
 use Rattle.conn_script.specs.declared.command.Word.{Word}
 use Rattle.conn_script.specs.declared.request.Request.TheVariants.{On}
@@ -41,6 +43,11 @@ module _ (counts : ℕ → ℕ) (n : ℕ) (reply : Reply) where
   HandsOn None = ⊤
   HandsOn (Some deed) = IsBlocks deed reply → IsRefused reply → 0 < counts n
 
+  opening_hands : (kind : BlockKind) → HandsOn (Some (opening kind))
+  opening_hands Plain = λ h r. absurd h
+  opening_hands Test = λ h r. absurd h
+  opening_hands (Form form) = λ h r. absurd h
+
   plain_hands : (verb : Verb) → HandsOn (plain_deed verb)
   plain_hands (verbs.Batch text) = λ h r. absurd h
   plain_hands verbs.Begin = λ h r. absurd h
@@ -50,7 +57,7 @@ module _ (counts : ℕ → ℕ) (n : ℕ) (reply : Reply) where
   plain_hands (verbs.Query call query) = λ h r. absurd h
   plain_hands (verbs.Cache size) = λ h r. absurd h
   plain_hands verbs.Ping = λ h r. absurd h
-  plain_hands (verbs.Block kind) = λ h r. absurd h
+  plain_hands (verbs.Block kind) = opening_hands kind
   plain_hands verbs.End = tt
   plain_hands verbs.Fail = tt
 

@@ -1,9 +1,7 @@
 -- What the whole call answers.
-use Rattle.std.specs.Prelude.{ℕ, ◌≡◌, ◌<◌, ◌≤◌, ◌⊎◌, Bool, true, false, List, [], ◌∷◌, map, slice_get, sum_by, Option, Some, None, Result, Ok, Err, codes, string_bytes, MatchResult}
+use Rattle.std.specs.Prelude.{ℕ, ◌≡◌, ◌<◌, ◌≤◌, ◌⊎◌, ⊤, Bool, true, false, List, ◌++◌, decimal, slice_get, sum_by, Option, Some, None, Result, Ok, Err, codes, MatchResult}
 use Rattle.std.specs.List.{AllByRecursion, list_any}
 use Rattle.std.specs.Option.{option_map, option_and_then}
-use Rattle.std.specs.declared.string.String.{String}
-use Rattle.std.specs.declared.alloc.Global.{Global}
 use Rattle.conn_model.specs.Obeyed.{Obeys}
 use Rattle.conn_model.specs.States.{State, Writes, state_of, kept}
 use Rattle.conn_model.specs.declared.item.Dialect.{Dialect}
@@ -18,6 +16,7 @@ use Rattle.conn_reading.specs.Sessions.{EachVerdict, EachStandsOver, EachClean, 
 use Rattle.conn_report.specs.declared.entry.Entry.{Entry}
 use Rattle.conn_report.specs.declared.entry.Transcript.{Transcript}
 use Rattle.conn_report.specs.Report.{report}
+use Rattle.conn_report.specs.Summary.{summary}
 use Rattle.conn_script.specs.Grammar.{script_of}
 use Rattle.conn_script.specs.declared.command.Command.{Command}
 use Rattle.conn_script.specs.declared.command.Script.{Script}
@@ -30,6 +29,9 @@ use Rattle.conn_session.specs.Accounts.{logs_of, servers_of}
 use Rattle.conn_session.specs.Plays.{IsPlayed}
 use Rattle.conn_session.specs.Steps.{IsCausedBy}
 use Rattle.conn_session.specs.Worlds.{refusals}
+use Rattle.conn_session.specs.declared.task.Task.{Task}
+use Rattle.conn_session.specs.declared.task.Task.TheVariants.{Run, Gen}
+use Rattle.script_generator.specs.Generator.{generated_script}
 
 -- the logs of the servers that are back answer these entries to the script, and say how many servers were opened; each obeys
 -- what the script's plan refuses of its server
@@ -131,35 +133,55 @@ pub record Transcribes (honest tells : Bool) (script : Script) (old k : Connecte
   pub borne_out : honest ≡ true → AreBorneOut script k t.entries
   pub statements : honest ≡ true → HasOwnStatements script (logs_of k.returned) t.entries
 
--- a bad script runs nothing; the line isn't told yet
-pub record IsBad (old new : Connected) (error : SessionError) : Type 0 where
-  pub error_is : (error ≡ BadScript 0) ⊎ (error ≡ OutOfMemory)
+-- a bad script runs nothing, and its bad line is told
+pub record IsBad (line : ℕ) (old new : Connected) (error : SessionError) : Type 0 where
+  pub error_is : (error ≡ BadScript line) ⊎ (error ≡ OutOfMemory)
   pub same : new ≡ old
 
 -- a session of these bytes, which are a script or not
 abbrev pub Sessions : Bool → Bool → Result Script ℕ → Connected → Connected → Result Transcript SessionError → Type 0
 Sessions honest tells (Ok script) old new result = MatchResult result (Transcribes honest tells script old new) (λ e. e ≡ OutOfMemory)
-Sessions honest tells (Err line) old new result = MatchResult result (λ t. ⊥) (IsBad old new)
+Sessions honest tells (Err line) old new result = MatchResult result (λ t. ⊥) (IsBad line old new)
 
--- the line for a bad script, whose bad line isn't told yet
-abbrev pub bad_line : List ℕ
-bad_line = codes "bad line 0\n"
+-- the line for bytes that are no script
+abbrev pub bad_line : ℕ → List ℕ
+bad_line line = codes "bad line " ++ decimal line ++ codes "\n"
 
--- status 0 and a report of a script's transcript, or status 1 and the bad line with nothing run
-abbrev pub Answers : Bool → Bool → Result Script ℕ → Connected → Connected → ℕ → List ℕ → Type 0
-Answers honest tells (Ok script) old new status text = (status ≡ 0) × ((t : Transcript) × Transcribes honest tells script old new t × (text ≡ report t.entries t.servers))
-Answers honest tells (Err line) old new status text = (status ≡ 1) × (new ≡ old) × (text ≡ bad_line)
+-- what a task writes of a session: `run` its report, `gen` its summary
+abbrev pub task_text : Task → Transcript → List ℕ
+task_text Run t = report t.entries t.servers
+task_text (Gen seed count) t = summary t.entries t.servers
 
--- the words of the command line are this one word
-abbrev pub AsksRun : List (String Global) → Type 0
-AsksRun words = map string_bytes words ≡ codes "run" ∷ []
+-- status 0 and the task's text of a script's transcript, or status 1 and the bad line with nothing run
+abbrev pub Answers : Bool → Bool → Task → Result Script ℕ → Connected → Connected → ℕ → List ℕ → Type 0
+Answers honest tells task (Ok script) old new status text = (status ≡ 0) × ((t : Transcript) × Transcribes honest tells script old new t × (text ≡ task_text task t))
+Answers honest tells task (Err line) old new status text = (status ≡ 1) × (new ≡ old) × (text ≡ bad_line line)
 
--- a text answers what the source had left, where it tells, and else some bytes
-abbrev pub AnswersLeft : Bool → Bool → Option (List ℕ) → Connected → Connected → ℕ → List ℕ → Type 0
-AnswersLeft honest tells None old new status text = (bytes : List ℕ) × Answers honest tells (script_of bytes) old new status text
-AnswersLeft honest tells (Some bytes) old new status text = Answers honest tells (script_of bytes) old new status text
+-- a text answers these bytes, where they are told, and else some bytes
+abbrev pub AnswersTold : Bool → Bool → Task → Option (List ℕ) → Connected → Connected → ℕ → List ℕ → Type 0
+AnswersTold honest tells task None old new status text = (bytes : List ℕ) × Answers honest tells task (script_of bytes) old new status text
+AnswersTold honest tells task (Some bytes) old new status text = Answers honest tells task (script_of bytes) old new status text
 
--- where nothing failed, a script is answered 0 and other bytes 1, unless memory ran out; a source that tells no bytes, one of these
+-- the bytes that a task is about: those that the source had left, or those that are generated
+abbrev pub task_bytes : Task → Option (List ℕ) → Option (List ℕ)
+task_bytes Run left = left
+task_bytes (Gen seed count) left = Some (generated_script seed count)
+
+-- a text answers what the task is about
+abbrev pub AnswersTask : Bool → Bool → Task → Option (List ℕ) → Connected → Connected → ℕ → List ℕ → Type 0
+AnswersTask honest tells task left old new status text = AnswersTold honest tells task (task_bytes task left) old new status text
+
+-- where nothing failed, a script is answered 0 and other bytes 1, unless memory ran out; bytes that aren't told, one of these
 abbrev pub IsComplete : Option (List ℕ) → ℕ → Type 0
 IsComplete None status = (status ≡ 4) ⊎ (status ≤ 1)
 IsComplete (Some bytes) status = (status ≡ 4) ⊎ MatchResult (script_of bytes) (λ _. status ≡ 0) (λ _. status ≡ 1)
+
+-- so is a task, and what is generated is a script
+abbrev pub IsCompleteTask : Task → Option (List ℕ) → ℕ → Type 0
+IsCompleteTask Run left status = IsComplete left status
+IsCompleteTask (Gen seed count) left status = (status ≡ 4) ⊎ (status ≡ 0)
+
+-- the source is read by `run` alone
+abbrev pub IsUnread : Task → Option (List ℕ) → Option (List ℕ) → Type 0
+IsUnread Run before left = ⊤
+IsUnread (Gen seed count) before left = left ≡ before

@@ -7,4 +7,5 @@ pub mod Plays
 pub mod Known
 pub mod Transfers
 pub mod Steps
+pub mod Tasks
 pub mod Commands

@@ -16,7 +16,7 @@ use Rattle.conn_script.specs.declared.command.Word.TheVariants as words
 use Rattle.conn_script.specs.declared.request.Request.{Request}
 use Rattle.conn_script.specs.declared.request.Request.TheVariants.{Get, Put, On}
 use Rattle.conn_script.specs.declared.request.Verb.{Verb}
-use Rattle.conn_reading.specs.Answered.{refusal_of, skip_entry}
+use Rattle.conn_reading.specs.Answered.{get_refusal, skip_entry}
 use Rattle.conn_reading.specs.Asking.{Policy, check_deed, customizer_deed}
 use Rattle.conn_reading.specs.Blocks.{block_on, blocks_after, deed_of}
 use Rattle.conn_reading.specs.Seats.{Seat, Context, at_first, at_number, make_entry, entry_on, entry_without, put_reply, put_slot}
@@ -47,8 +47,8 @@ pub record PlaysReady (line : ℕ) (fresh : Bool) (deed : Option Deed) (seat : S
   pub mark : Option ℕ
   pub numbered : after.number ≡ seat.number
   pub answers : AnswersReady deed seat after reply
-  pub entry_is : entry ≡ ready_entry line after mark (refusal_of fresh after reply)
-  pub context_is : new ≡ ready_context old after (refusal_of fresh after reply)
+  pub entry_is : entry ≡ ready_entry line after mark (get_refusal fresh after reply)
+  pub context_is : new ≡ ready_context old after (get_refusal fresh after reply)
 
 -- an attempt opened a server, which has a place
 abbrev pub with_place : Context → Context

@@ -3,7 +3,7 @@ ghost use Rattle.std.specs.Prelude.{◌≡◌, ◌↔◌, ℕ, List, Some, IfOk,
 ghost use Rattle.conn_result.specs.declared.error.Error.TheVariants.{OutOfMemory as out_of_memory};
 ghost use Rattle.conn_manager.specs.Views.{ActsOrMemoryFrom, KeepsCache};
 ghost use Rattle.conn_drivers.specs.Loaded.{listed};
-ghost use Rattle.conn_reading.specs.Asking.{close_process, find_query, reply_as, rollback_answer, row_reply};
+ghost use Rattle.conn_reading.specs.Asking.{close_process, find_query, keep_process, reply_as, rollback_answer, row_reply};
 ghost use Rattle.conn_report.specs.declared.entry.Reply.TheVariants.{Count, Rows, OneRow};
 ghost use Rattle.conn_reading.specs.Seats.{entry_on};
 ghost use Rattle.conn_reading.specs.declared.deed.Deed.{Deed as deed_type};
@@ -13,7 +13,7 @@ ghost use Rattle.conn_session.specs.Responses.{answer_reply, done_answer, query_
 
 use crate::queries::{Queries, ScriptQuery};
 use conn_drivers::R2D2Connection;
-use conn_manager::{AnsiTransactionManager, Connection};
+use conn_manager::{AnsiTransactionManager, Connection, RollbackErrors};
 use conn_model::Row;
 use conn_reading::Deed;
 use conn_report::{Entry, Reply};
@@ -30,12 +30,12 @@ fn wants_memory(answer: &QueryResult<()>) -> bool
 }
 
 /// The answer of a block that got this error, after its rollback.
-fn rollback_answer(e: Error, answer: QueryResult<()>) -> QueryResult<()>
-    ensures { result ≡ rollback_answer e answer }
+fn rollback_answer(errors: RollbackErrors, e: Error, answer: QueryResult<()>) -> QueryResult<()>
+    ensures { result ≡ rollback_answer errors e answer }
 {
     match answer {
-        Ok(()) | Err(Error::BrokenTransactionManager) => Err(e),
-        Err(r) => Err(r),
+        Err(r) if errors.includes(&r) => Err(r),
+        _ => Err(e),
     }
 }
 
@@ -120,6 +120,28 @@ fn close_test<C: Connection>(connection: &mut C, answer: QueryResult<()>) -> Que
     }
 }
 
+/// Closes a block that keeps what it did where all went well.
+fn close_kept<C: Connection>(
+    connection: &mut C,
+    kind: BlockKind,
+    errors: RollbackErrors,
+    answer: QueryResult<()>,
+) -> QueryResult<()>
+    ensures acts { ActsOrMemoryFrom C.is_honest (keep_process errors answer)
+        (C.view connection.old) (C.view connection.new) result }
+    ensures cache { KeepsCache (C.view connection.old) (C.view connection.new) }
+    ensures cause { CountsRefusal (close_deed kind answer) (C.view connection.old).seen
+        (C.view connection.new).seen (reply_as result) }
+{
+    match answer {
+        Ok(()) => AnsiTransactionManager::commit_transaction(connection),
+        Err(e) => {
+            let answer = AnsiTransactionManager::rollback_transaction(connection);
+            rollback_answer(errors, e, answer)
+        }
+    }
+}
+
 /// Closes a block with this answer.
 fn close<C: Connection>(
     connection: &mut C,
@@ -132,12 +154,10 @@ fn close<C: Connection>(
     ensures cause { CountsRefusal (close_deed kind answer) (C.view connection.old).seen
         (C.view connection.new).seen (reply_as result) }
 {
-    match (kind, answer) {
-        (BlockKind::Plain, Ok(())) => AnsiTransactionManager::commit_transaction(connection),
-        (BlockKind::Plain, Err(e)) => {
-            rollback_answer(e, AnsiTransactionManager::rollback_transaction(connection))
-        }
-        (BlockKind::Test, answer) => close_test(connection, answer),
+    match kind {
+        BlockKind::Plain => close_kept(connection, kind, RollbackErrors::AllButBroken, answer),
+        BlockKind::Form(form) => close_kept(connection, kind, RollbackErrors::of(&form), answer),
+        BlockKind::Test => close_test(connection, answer),
     }
 }
 
@@ -181,6 +201,10 @@ fn ask<C: R2D2Connection>(
     match deed {
         Deed::Batch(text) => done_answer(connection.batch_execute(text.as_str())),
         Deed::Begin => done_answer(AnsiTransactionManager::begin_transaction(connection)),
+        Deed::BeginBy(form) => {
+            let text = form.sql();
+            done_answer(AnsiTransactionManager::begin_transaction_sql(connection, text.as_str()))
+        }
         Deed::Commit => done_answer(AnsiTransactionManager::commit_transaction(connection)),
         Deed::Rollback => done_answer(AnsiTransactionManager::rollback_transaction(connection)),
         Deed::TestBegin => done_answer(connection.begin_test_transaction()),

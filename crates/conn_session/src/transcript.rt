@@ -117,8 +117,8 @@ fn run_script<K: Connector>(
     })
 }
 
-/// Runs the script that the bytes stand for. Bytes that stand for none run nothing; their bad line isn't told yet, and the
-/// answer has line 0. Whatever the answer, each server that was opened is back with the connector, once. Over an honest
+/// Runs the script that the bytes stand for. Bytes that stand for none run nothing, and their bad line is told: the first with
+/// which the lines can't go on to a script. Whatever the answer, each server that was opened is back with the connector, once. Over an honest
 /// connector the entries are those that the finished logs of its servers answer to the commands.
 #[tactic(auto, using(crate::proofs::Borne::is_parsed))]
 pub fn run_session<K: Connector>(
@@ -137,7 +137,6 @@ pub fn run_session<K: Connector>(
             Ok(transcript) => Ok(transcript),
             Err(_) => Err(SessionError::OutOfMemory),
         },
-        Err(SessionError::BadScript { .. }) => Err(SessionError::BadScript { line: 0 }),
-        Err(SessionError::OutOfMemory) => Err(SessionError::OutOfMemory),
+        Err(e) => Err(e),
     }
 }

@@ -7,8 +7,8 @@ use Rattle.url.specs.Parts.{Parts}
 use Rattle.mysql_url.specs.declared.mysql.connection.query.QueryKeys.{QueryKeys}
 
 -- the text of a name or a value; bytes that are no UTF-8 become U+FFFD
-abbrev pub form_text : List ℕ → List ℕ
-form_text bytes = utf8_lossy (decode bytes)
+abbrev pub lossy_text : List ℕ → List ℕ
+lossy_text bytes = utf8_lossy (decode bytes)
 
 -- an option of TLS has this name
 abbrev pub is_tls_key : List ℕ → Bool
@@ -31,7 +31,7 @@ with_key keys name value = record {
 -- more pairs, in order
 abbrev pub with_pairs : QueryKeys → List (List ℕ × List ℕ) → QueryKeys
 with_pairs keys [] = keys
-with_pairs keys (pair ∷ pairs) = with_pairs (with_key keys (form_text pair.0) (form_text pair.1)) pairs
+with_pairs keys (pair ∷ pairs) = with_pairs (with_key keys (lossy_text pair.0) (lossy_text pair.1)) pairs
 
 -- the keys of a URL's query
 abbrev pub keys_of : Parts → QueryKeys

@@ -5,7 +5,5 @@
 #![tactic(auto)]
 
 pub mod mysql;
-#[cfg(test)]
-mod tests;
 
 pub use mysql::connection::{CapabilityFlags, ConnectionOptions};

@@ -7,6 +7,3 @@ mod stanza;
 
 pub use generator::generate;
 pub use law::generated_bytes_are_a_script;
-
-#[cfg(test)]
-mod tests;

@@ -1,9 +1,9 @@
-use Rattle.std.proofs.Common.{refl, sym}
-use Rattle.conn_manager.specs.Manages.{begin_process, begin_test_process, commit_process, rollback_process}
+use Rattle.std.proofs.Common.{◌≡◌, ◌∙◌, ℕ, List, refl, subst, sym}
+use Rattle.conn_model.specs.Beginnings.{form_text}
+use Rattle.conn_manager.specs.Manages.{begin_process, begin_sql_process, begin_test_process, commit_process, rollback_process}
+use Rattle.conn_manager.specs.Views.{ActsOrMemoryFrom}
 use Rattle.conn_reading.specs.Asking.{close_process}
-use Rattle.conn_reading.specs.declared.deed.Deed.{Deed}
 use Rattle.conn_reading.specs.declared.deed.Deed.TheVariants as deeds
-use Rattle.conn_session.specs.Responses.{Asks}
 use Rattle.conn_session.proofs.Responses.{batch_asked, manager_asked, none_asked, ping_asked, size_asked}
 use Rattle.conn_session.proofs.calls.ask.Goals as goal
 
@@ -19,6 +19,15 @@ returns-in-Begin-clause-asks g c =
     rw (c.in-Begin.is, c.done_answer-in-Begin.ensures)
     (manager_asked C.is_honest c.args.queries.now (C.view c.args.connection.now) (C.view c.begin_transaction.new.conn) deeds.Begin begin_process c.begin_transaction.result (λ d s k. refl) refl (λ e m. m) c.begin_transaction.ensures.acts
     c.begin_transaction.ensures.cache)
+
+pub returns-in-BeginBy-clause-asks : goal.returns-in-BeginBy-clause-asks
+returns-in-BeginBy-clause-asks g c =
+    let C = g.C.SimpleConnection in
+    let form = c.in-BeginBy.form in
+    let text : c.as_str-in-BeginBy.result.now ≡ form_text form = c.as_str-in-BeginBy.ensures.value ∙ c.sql-text.ensures.text in
+    rw (c.in-BeginBy.is, c.done_answer-in-BeginBy.ensures)
+    (manager_asked C.is_honest c.args.queries.now (C.view c.args.connection.now) (C.view c.begin_transaction_sql.new.conn) (deeds.BeginBy form) (λ d s. begin_sql_process d (form_text form) s) c.begin_transaction_sql.result (λ d s k. refl) refl (λ e m. m)
+    (subst (λ (t : List ℕ). ActsOrMemoryFrom C.is_honest (λ d. begin_sql_process d t) (C.view c.args.connection.now) (C.view c.begin_transaction_sql.new.conn) c.begin_transaction_sql.result) text c.begin_transaction_sql.ensures.acts) c.begin_transaction_sql.ensures.cache)
 
 pub returns-in-Commit-clause-asks : goal.returns-in-Commit-clause-asks
 returns-in-Commit-clause-asks g c =

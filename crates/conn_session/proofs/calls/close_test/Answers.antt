@@ -1,5 +1,4 @@
-use Rattle.std.proofs.Common.{◌≡◌, true, false, sym}
-use Rattle.conn_session.specs.Responses.{wants_memory}
+use Rattle.std.proofs.Common.{sym}
 use Rattle.conn_session.proofs.BlockAnswers.{test_wants, test_closes, test_counted, memory_counted}
 use Rattle.conn_session.proofs.calls.close_test.Goals as goal
 

@@ -1,4 +1,4 @@
-use Rattle.std.proofs.Common.{◌≡◌, ◌<◌, ◌∙◌, ap, sym, arith, length, Option, Some, None}
+use Rattle.std.proofs.Common.{◌≡◌, ◌<◌, ◌∙◌, ap, sym, arith, length, Some, None}
 use Rattle.conn_reading.specs.Seats.{at_number}
 use Rattle.conn_script.specs.declared.query.Declared.{Declared}
 use Rattle.conn_session.specs.Finds.{with_placed}

@@ -1,7 +1,6 @@
-use Rattle.std.proofs.Common.{◌≡◌, ◌∙◌, false, sym, ap, refl, arith, Some, None}
-use Rattle.std.specs.Prelude.{slice_get}
+use Rattle.std.proofs.Common.{◌∙◌, false, sym, ap, refl, arith, Some, None}
 use Rattle.std.proofs.lemmas.List.{drop_all}
-use Rattle.conn_reading.specs.RowShapes.{column_fault, columns_fault}
+use Rattle.conn_reading.specs.RowShapes.{columns_fault}
 use Rattle.conn_script.specs.declared.shape.ShapeKind.TheVariants.{Int}
 use Rattle.conn_session.proofs.ShapeFaults.{fault_from}
 use Rattle.conn_session.proofs.row_shapes.columns_fault.Goals as goal

@@ -1,9 +1,9 @@
-use Rattle.std.proofs.Common.{◌≡◌, List, ap, sym, subst, ◌∙◌}
+use Rattle.std.proofs.Common.{◌≡◌, ap, sym, subst, ◌∙◌}
 use Rattle.conn_pool.specs.Managers.{managed}
 use Rattle.conn_reading.specs.Asking.{policy_of}
 use Rattle.conn_server.specs.Connected.{Connected}
 use Rattle.conn_session.specs.Steps.{Closes}
-use Rattle.conn_session.specs.Worlds.{Invariant, Pool, World, new_pool, pool_of, world_at}
+use Rattle.conn_session.specs.Worlds.{Invariant, Pool, World, world_at}
 use Rattle.conn_session.proofs.Ended.{all_back, armed_same, at_start, attempts_at, holds_over, result_runs, start_holds, starts}
 use Rattle.conn_session.proofs.transcript.run_commands.Given as given
 use Rattle.conn_session.proofs.transcript.run_commands.Goals as goal

@@ -4,7 +4,7 @@ use Rattle.conn_report.specs.declared.entry.Reply.TheVariants as replies
 use Rattle.conn_session.specs.Steps.{AnswersOn}
 use Rattle.conn_manager.specs.Views.{View}
 use Rattle.conn_pool.specs.declared.pooled.PooledConnection.{PooledConnection}
-use Rattle.conn_session.specs.Worlds.{Pool, views_of, world_at}
+use Rattle.conn_session.specs.Worlds.{Pool, world_at}
 use Rattle.conn_session.proofs.Deeds.{on_absent, on_place, on_left, honest_place}
 use Rattle.conn_session.proofs.Shown.{place-at, views-set}
 use Rattle.conn_session.proofs.Numbers.{at_number-map, at_number-past}

@@ -1,9 +1,8 @@
-use Rattle.std.proofs.Common.{◌≡◌, List, Option, [], ◌∷◌, ◌++◌, ap, sym, subst, ◌∙◌, arith, length}
+use Rattle.std.proofs.Common.{List, Option, [], ◌∷◌, ap, sym, subst, ◌∙◌, arith, length}
 use Rattle.std.specs.Option.{option_map}
 use Rattle.std.proofs.lemmas.List.{map-append}
 use Rattle.conn_manager.specs.Views.{View}
 use Rattle.conn_model.specs.declared.item.Dialect.TheVariants.{Pg}
-use Rattle.conn_pool.specs.SlotViews.{SlotView}
 use Rattle.conn_pool.specs.declared.pooled.PooledConnection.{PooledConnection}
 use Rattle.conn_session.specs.Transfers.{GivesBackSome}
 use Rattle.conn_session.specs.Worlds.{kept_views, views_of, world_at}

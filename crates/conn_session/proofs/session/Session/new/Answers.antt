@@ -1,4 +1,4 @@
-use Rattle.std.proofs.Common.{◌≡◌, List, Option, ap, sym, ◌∙◌}
+use Rattle.std.proofs.Common.{◌≡◌, List, Option, ap, ◌∙◌}
 use Rattle.conn_manager.specs.Views.{View}
 use Rattle.conn_pool.specs.SlotViews.{PoolView, empty_slots}
 use Rattle.conn_pool.specs.declared.pooled.PooledConnection.{PooledConnection}
